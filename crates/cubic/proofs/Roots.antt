@@ -1,0 +1,88 @@
+-- Crossings and roots, said by the two halves of g: what shows that a number is the gas root or the dense root, and that a crossing
+-- from the bend on is the one and a crossing below the bend the other. Assumes nothing.
+use Prim.Native.Nat.{ℕ, suc, _+_, _≤_, _<_}
+use native.Mathlib.Nat.{lt-of-not-le, not-le-of-lt}
+use native.Mathlib.Numerals.{add-one}
+use native.Mathlib.Omega.{arith}
+use native.Mathlib.Decide.{decLe}
+use Rattle.cubic.specs.Cubic.{Crossing, GasRoot, DenseRoot}
+use Rattle.cubic.specs.Sides.{plus, minus, plusStep, minusStep, bend, PositiveFrom, NotPositiveTo}
+use Rattle.cubic.proofs.Signed.{to-positive, of-positive}
+use Rattle.cubic.proofs.Shape.{plus-grows, minus-grows}
+use Rattle.cubic.proofs.Lines.{positive-from, not-positive-to}
+
+-- a crossing, by the halves of g
+pub record Crosses (a b z : ℕ) : Type 0 where
+  pub not-positive : plus a z ≤ minus a b z
+  pub then-positive : minus a b (suc z) < plus a (suc z)
+
+module _ (a b : ℕ) where
+  pub to-crossing : {z : ℕ} → Crosses a b z → Crossing a b z
+  to-crossing {z} c =
+      record {
+        not-positive = λ p. not-le-of-lt (of-positive a b z p) (c .not-positive);
+        then-positive = rw add-one (to-positive a b (suc z) (c .then-positive));
+      }
+
+  pub of-crossing : {z : ℕ} → Crossing a b z → Crosses a b z
+  of-crossing {z} c = record { not-positive = by-order (decLe (plus a z) (minus a b z)); then-positive = of-positive a b (suc z) (rw add-one at (c .then-positive)) }
+    where
+      by-order : Dec (plus a z ≤ minus a b z) → plus a z ≤ minus a b z
+      by-order (yes h) = h
+      by-order (no f) = absurd (c .not-positive (to-positive a b z (lt-of-not-le f)))
+
+  pub gas-root : {z : ℕ} → plus a z ≤ minus a b z → PositiveFrom a b (z + 1) → GasRoot a b z
+  unfolding PositiveFrom
+  gas-root {z} not-positive positive =
+      record {
+        crossing = to-crossing (record { not-positive = not-positive; then-positive = positive (suc z) (omega arith) });
+        largest = λ y c. by-order y (of-crossing c) (decLe y z);
+      }
+    where
+      by-order : (y : ℕ) → Crosses a b y → Dec (y ≤ z) → y ≤ z
+      by-order y c (yes h) = h
+      by-order y c (no f) = omega (arith, positive y (omega arith))
+
+  pub dense-root : {z : ℕ} → NotPositiveTo a b z → minus a b (z + 1) < plus a (z + 1) → DenseRoot a b z
+  unfolding NotPositiveTo
+  dense-root {z} not-positive positive =
+      record {
+        crossing = to-crossing (record { not-positive = not-positive z (omega arith); then-positive = rw add-one at positive });
+        smallest = λ y c. by-order y (of-crossing c) (decLe z y);
+      }
+    where
+      by-order : (y : ℕ) → Crosses a b y → Dec (z ≤ y) → z ≤ y
+      by-order y c (yes h) = h
+      by-order y c (no f) = omega (arith, not-positive (suc y) (omega arith))
+
+  -- at a crossing the step rises
+  rising : {z : ℕ} → Crosses a b z → minusStep b z < plusStep a z
+  rising {z} c = omega (arith, plus-grows a z, minus-grows a b z)
+
+  pub gas-from-bend : {z : ℕ} → bend ≤ z → Crossing a b z → GasRoot a b z
+  gas-from-bend {z} limit crossing =
+      let c = of-crossing crossing in
+      gas-root (c .not-positive) (rw add-one (positive-from a b z limit (rising c) (c .then-positive)))
+
+  pub dense-to-bend : {z : ℕ} → z ≤ bend → Crossing a b z → DenseRoot a b z
+  dense-to-bend {z} limit crossing =
+      let c = of-crossing crossing in
+      dense-root (not-positive-to a b z limit (rising c) (c .not-positive)) (rw add-one (c .then-positive))
+
+  -- where all is positive from the bend on, the dense root is the gas root too
+  pub gas-is-dense : {z : ℕ} → PositiveFrom a b bend → DenseRoot a b z → GasRoot a b z
+  unfolding PositiveFrom
+  gas-is-dense {z} positive dense = record { crossing = dense .crossing; largest = λ y c. by-side y c (decLe y bend) }
+    where
+      by-side : (y : ℕ) → Crossing a b y → Dec (y ≤ bend) → y ≤ z
+      by-side y c (yes h) = dense-to-bend h c .smallest z (dense .crossing)
+      by-side y c (no f) = omega (arith, of-crossing c, positive y (omega arith))
+
+  -- where nothing is positive up to the bend, the gas root is the dense root too
+  pub dense-is-gas : {z : ℕ} → NotPositiveTo a b bend → GasRoot a b z → DenseRoot a b z
+  unfolding NotPositiveTo
+  dense-is-gas {z} not-positive gas = record { crossing = gas .crossing; smallest = λ y c. by-side y c (decLe bend y) }
+    where
+      by-side : (y : ℕ) → Crossing a b y → Dec (bend ≤ y) → z ≤ y
+      by-side y c (yes h) = gas-from-bend h c .largest z (gas .crossing)
+      by-side y c (no f) = omega (arith, of-crossing c, not-positive (suc y) (omega arith))

@@ -1,0 +1,80 @@
+-- What is proved of the definitions of `specs/Cubic.antt`, for every a and every b: where g is positive, that there is one gas root and
+-- one dense root, and that no crossing goes unreported. Document 01 wants it for b of at least 1; it holds for 0 too.
+-- Last, that what `solve` promises fixes its answer. Assumes nothing.
+use mathlib.Core.Path.{_≡_, refl, ap₂}
+use mathlib.Core.Logic.{_⊎_, inl, inr}
+use Prim.Native.Nat.{ℕ, _+_, _≤_, _<_}
+use native.Mathlib.Nat.{le-antisymm, le-of-lt, lt-of-not-le, not-le-of-lt}
+use native.Mathlib.Omega.{arith}
+use native.Mathlib.Decide.{decLe}
+use Rattle.cubic.specs.Cubic.{N, g, Positive, Crossing, GasRoot, DenseRoot, Kind, ONE, SPLIT, IsKind}
+use Rattle.cubic.specs.Sides.{bend}
+use Rattle.cubic.specs.Promise.{Solves}
+use Rattle.cubic.specs.declared.Solution.{Solution}
+use Rattle.cubic.specs.declared.Solution.the-variants.{Roots, OutOfBounds}
+use Rattle.cubic.proofs.Signed.{to-positive, of-positive}
+use Rattle.cubic.proofs.Shape.{to-b, above-grid}
+use Rattle.cubic.proofs.Roots.{gas-from-bend, dense-to-bend}
+use Rattle.cubic.proofs.Existence.{gas-exists, dense-exists}
+
+module _ (a b : ℕ) where
+  pub not-positive-to-b : (z : ℕ) → z ≤ b → Positive (g a b z) → ⊥
+  not-positive-to-b z h p = not-le-of-lt (of-positive a b z p) (to-b a b z h)
+
+  pub positive-above-grid : (z : ℕ) → N + b < z → Positive (g a b z)
+  positive-above-grid z h = to-positive a b z (above-grid a b z h)
+
+  pub gas-root-exists : (z : ℕ) × GasRoot a b z
+  gas-root-exists = gas-exists a b
+
+  pub dense-root-exists : (z : ℕ) × DenseRoot a b z
+  dense-root-exists = dense-exists a b
+
+  pub gas-root-unique : {y z : ℕ} → GasRoot a b y → GasRoot a b z → y ≡ z
+  gas-root-unique {y} {z} r s = le-antisymm (s .largest y (r .crossing)) (r .largest z (s .crossing))
+
+  pub dense-root-unique : {y z : ℕ} → DenseRoot a b y → DenseRoot a b z → y ≡ z
+  dense-root-unique {y} {z} r s = le-antisymm (r .smallest z (s .crossing)) (s .smallest y (r .crossing))
+
+  module _ (gas dense : ℕ) (is-gas : GasRoot a b gas) (is-dense : DenseRoot a b dense) where
+    pub every-crossing-is-reported : (z : ℕ) → Crossing a b z → (z ≡ gas) ⊎ (z ≡ dense)
+    every-crossing-is-reported z c = by-side (decLe bend z)
+      where
+        by-side : Dec (bend ≤ z) → (z ≡ gas) ⊎ (z ≡ dense)
+        by-side (yes h) = inl (gas-root-unique (gas-from-bend a b h c) is-gas)
+        by-side (no f) = inr (dense-root-unique (dense-to-bend a b (le-of-lt (lt-of-not-le f)) c) is-dense)
+
+    pub gas-is-largest : (z : ℕ) → Crossing a b z → z ≤ gas
+    gas-is-largest = is-gas .largest
+
+    pub dense-is-smallest : (z : ℕ) → Crossing a b z → dense ≤ z
+    dense-is-smallest = is-dense .smallest
+
+  -- every crossing lies from b to N + b; so a root is at least 1 where b is
+  pub crossing-from-b : (z : ℕ) → Crossing a b z → b ≤ z
+  crossing-from-b z c = by-order (decLe b z)
+    where
+      by-order : Dec (b ≤ z) → b ≤ z
+      by-order (yes h) = h
+      by-order (no f) = absurd (not-positive-to-b (z + 1) (omega arith) (c .then-positive))
+
+  pub crossing-on-grid : (z : ℕ) → Crossing a b z → z ≤ N + b
+  crossing-on-grid z c = by-order (decLe z (N + b))
+    where
+      by-order : Dec (z ≤ N + b) → z ≤ N + b
+      by-order (yes h) = h
+      by-order (no f) = absurd (c .not-positive (positive-above-grid z (lt-of-not-le f)))
+
+  -- two answers that keep what `solve` promises are equal
+  pub solution-determined : (r s : Solution) → Solves a b r → Solves a b s → r ≡ s
+  solution-determined (Roots gas dense) (Roots gas′ dense′) p q =
+      ap₂ Roots (gas-root-unique (p .1) (q .1)) (dense-root-unique (p .2) (q .2))
+  solution-determined (Roots gas dense) OutOfBounds p q = absurd (q (p .0))
+  solution-determined OutOfBounds (Roots gas dense) p q = absurd (p (q .0))
+  solution-determined OutOfBounds OutOfBounds p q = refl
+
+pub kind-determined : (gas dense : ℕ) (k l : Kind) → IsKind gas dense k → IsKind gas dense l → k ≡ l
+kind-determined gas dense ONE ONE p q = refl
+kind-determined gas dense ONE SPLIT p q = absurd (q p)
+kind-determined gas dense SPLIT ONE p q = absurd (p q)
+kind-determined gas dense SPLIT SPLIT p q = refl

@@ -1,0 +1,21 @@
+-- What `solve` promises: the two roots of the definitions, or that a or b is too large for 64 bits. No starting point occurs here.
+use Prim.Native.Nat.{ℕ, _≤_}
+use Rattle.cubic.specs.Cubic.{GasRoot, DenseRoot}
+use Rattle.cubic.specs.declared.Solution.{Solution}
+use Rattle.cubic.specs.declared.Solution.the-variants.{Roots, OutOfBounds}
+
+-- Every accepted state of hydrogen, oxygen and nitrogen has a up to 10969036 and b up to 954341;
+-- the bound on a leaves room for an a that is scaled by a half more.
+abbrev pub largestA : ℕ
+largestA = 20000000
+
+abbrev pub largestB : ℕ
+largestB = 1000000
+
+pub record Within (a b : ℕ) : Type 0 where
+  pub a-fits : a ≤ largestA
+  pub b-fits : b ≤ largestB
+
+abbrev pub Solves : (a b : ℕ) → Solution → Type 0
+Solves a b (Roots gas dense) = Within a b × GasRoot a b gas × DenseRoot a b dense
+Solves a b OutOfBounds = Within a b → ⊥

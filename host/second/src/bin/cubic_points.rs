@@ -1,0 +1,189 @@
+//! Makes the two files of the program `cubic_points`:
+//!
+//!     cubic_points list  > crates/cubic_points/stdin
+//!     cubic_points scan  < crates/cubic_points/stdin > crates/cubic_points/stdout
+//!
+//! `list` chooses points "a b start"; `scan` answers each by looking at every place of the grid, and
+//! never looks at the start.
+
+use second::cubic::crossings;
+use std::collections::HashMap;
+use std::io::{self, BufWriter, Read, Write};
+
+/// The bounds that `cubic::solve` documents.
+const LARGEST_A: u64 = 20_000_000;
+const LARGEST_B: u64 = 1_000_000;
+
+/// A third of the grid, where the engine's two searches meet.
+const BEND: u64 = 33_333;
+
+/// The program reads one buffer of this size.
+const LARGEST_LIST: usize = 65_536;
+
+fn main() -> io::Result<()> {
+    match std::env::args().nth(1).as_deref() {
+        Some("list") => list(),
+        Some("scan") => scan(),
+        _ => {
+            eprintln!("usage: cubic_points list | cubic_points scan");
+            std::process::exit(2);
+        }
+    }
+}
+
+fn within(a: u64, b: u64) -> bool {
+    a <= LARGEST_A && b <= LARGEST_B
+}
+
+fn scan() -> io::Result<()> {
+    let mut text = String::new();
+    io::stdin().read_to_string(&mut text)?;
+    let mut known: HashMap<(u64, u64), Vec<u64>> = HashMap::new();
+    let mut out = BufWriter::new(io::stdout().lock());
+    for line in text.lines() {
+        let numbers: Vec<u64> = line.split(' ').map(|word| word.parse().expect("a number")).collect();
+        let [a, b, _start] = numbers[..] else { panic!("three numbers in a line: {line}") };
+        if !within(a, b) {
+            writeln!(out, "{line} OUT OF BOUNDS")?;
+            continue;
+        }
+        let found = known.entry((a, b)).or_insert_with(|| crossings(a, b));
+        match found[..] {
+            [root] => writeln!(out, "{line} ONE {root}")?,
+            [dense, gas] => writeln!(out, "{line} SPLIT {gas} {dense}")?,
+            _ => panic!("{} crossings at a = {a}, b = {b}", found.len()),
+        }
+    }
+    writeln!(out, "{} points", text.lines().count())
+}
+
+/// The points, each a line.
+struct List {
+    text: String,
+    turn: usize,
+    random: Random,
+}
+
+impl List {
+    fn point(&mut self, a: u64, b: u64, start: u64) {
+        self.text.push_str(&format!("{a} {b} {start}\n"));
+    }
+
+    /// Every start that could mislead a search at this a and b.
+    fn all_starts(&mut self, a: u64, b: u64) {
+        for start in starts(a, b) {
+            self.point(a, b, start);
+        }
+    }
+
+    /// One such start, another each time.
+    fn one_start(&mut self, a: u64, b: u64) {
+        let starts = starts(a, b);
+        self.turn += 1;
+        self.point(a, b, starts[self.turn % starts.len()]);
+    }
+}
+
+/// Zeros, the roots and their neighbours, the bend, the grid's ends, a stranger's and senseless numbers.
+fn starts(a: u64, b: u64) -> Vec<u64> {
+    let mut all = vec![0, BEND - 1, BEND, 92_696, 100_000 + b, 100_001 + b, 4_294_967_295, u64::MAX];
+    for root in crossings(a, b) {
+        all.extend([root.saturating_sub(1), root, root + 1]);
+    }
+    all
+}
+
+/// The a in the range at which the number of crossings is about to change, by halving.
+fn last_before_change(b: u64, mut low: u64, mut high: u64) -> u64 {
+    let count = crossings(low, b).len();
+    while high - low > 1 {
+        let middle = low + (high - low) / 2;
+        if crossings(middle, b).len() == count {
+            low = middle;
+        } else {
+            high = middle;
+        }
+    }
+    low
+}
+
+fn list() -> io::Result<()> {
+    let mut list = List { text: String::new(), turn: 0, random: Random(0x5EED) };
+
+    // document 01's worked states, the SPLIT one with the starts that the tests have always had
+    for start in [0, 1699, 1700, 92_696, 92_697, 4_294_967_295] {
+        list.point(7984, 1106, start);
+    }
+    for (a, b) in [(0, 1), (7984, 1106), (1616, 885), (165, 637)] {
+        list.all_starts(a, b);
+    }
+
+    // the ends of the bounds and what lies past them
+    for a in [0, 1, LARGEST_A - 1, LARGEST_A] {
+        for b in [0, 1, BEND - 1, BEND, BEND + 1, LARGEST_B - 1, LARGEST_B] {
+            list.one_start(a, b);
+            list.one_start(a, b);
+        }
+    }
+    for (a, b) in [(LARGEST_A + 1, 1), (0, LARGEST_B + 1), (LARGEST_A + 1, LARGEST_B + 1), (u64::MAX, u64::MAX)] {
+        list.point(a, b, 0);
+        list.point(a, b, u64::MAX);
+    }
+
+    // the greatest a and b of each fluid's states
+    for (a, b) in [(10_969_036, 954_341), (5_369_500, 237_212), (3_437_284, 251_566)] {
+        list.all_starts(a, b);
+    }
+
+    // both sides of each double root: for these b the state is ONE, then SPLIT, then ONE as a grows
+    for b in [1, 2, 10, 100, 500, 1106, 2000, 4000, 6000, 8000, 8500, 8600, 8640, 8655] {
+        let split = (0..60_000).step_by(7).find(|&a| crossings(a, b).len() == 2);
+        let Some(split) = split else { continue };
+        let first = last_before_change(b, 0, split);
+        let last = last_before_change(b, split, 60_000);
+        for edge in [first, last] {
+            for a in edge.saturating_sub(1)..=edge + 2 {
+                list.one_start(a, b);
+                list.one_start(a, b);
+            }
+        }
+    }
+
+    // around the critical point, where the three real roots meet at the bend
+    for a in 42_744..=42_752 {
+        for b in 8_660..=8_668 {
+            list.one_start(a, b);
+        }
+    }
+
+    // a spread over all magnitudes
+    while list.text.len() < LARGEST_LIST - 64 {
+        let a = list.random.magnitude(LARGEST_A);
+        let b = list.random.magnitude(LARGEST_B);
+        if list.random.next() % 4 == 0 {
+            list.one_start(a, b);
+        } else {
+            list.one_start(a % 60_000, b % 9_000);
+        }
+    }
+    io::stdout().write_all(list.text.as_bytes())
+}
+
+/// Numbers that are the same in every run (Steele, Lea and Flood's SplitMix).
+struct Random(u64);
+
+impl Random {
+    fn next(&mut self) -> u64 {
+        self.0 = self.0.wrapping_add(0x9E37_79B9_7F4A_7C15);
+        let mut mixed = self.0;
+        mixed = (mixed ^ (mixed >> 30)).wrapping_mul(0xBF58_476D_1CE4_E5B9);
+        mixed = (mixed ^ (mixed >> 27)).wrapping_mul(0x94D0_49BB_1331_11EB);
+        mixed ^ (mixed >> 31)
+    }
+
+    /// A number up to `most`, small ones as likely as large ones.
+    fn magnitude(&mut self, most: u64) -> u64 {
+        let bits = self.next() % (u64::from(most.ilog2()) + 1) + 1;
+        (self.next() % (1 << bits)).min(most)
+    }
+}

@@ -1,0 +1,4 @@
+//! A second implementation of document 01, written from the paper alone and in the plainest way:
+//! what the proved crates answer is compared with it. It shares no code with them.
+
+pub mod cubic;
