@@ -1,17 +1,18 @@
 -- What the ends of the two searches say together: the roots, by the sides of the bend on which the searches ended. Assumes nothing.
-use Prim.Native.Nat.{ℕ, _+_, _≤_, _<_}
+use Prim.Native.Nat.{ℕ, _≤_, _<_}
 use native.Mathlib.Nat.{lt-of-not-le}
 use native.Mathlib.Omega.{arith}
 use native.Mathlib.Decide.{decLe}
 use Rattle.cubic.specs.Cubic.{GasRoot, DenseRoot}
+use Rattle.cubic.specs.Promise.{Within, BothRoots}
 use Rattle.cubic.specs.Sides.{bend, PositiveFrom, NotPositiveTo, FallsTo, ClimbsTo}
 use Rattle.cubic.proofs.Roots.{gas-root, dense-root, gas-is-dense, dense-is-gas}
 
-module _ {a b high low : ℕ} (fallen : FallsTo a b high) (climbed : ClimbsTo a b low) where
-  pub gas-found : bend ≤ high → GasRoot a b high
+module _ {a b high low : ℕ} (within : Within a b) (fallen : FallsTo a b high) (climbed : ClimbsTo a b low) where
+  gas-found : bend ≤ high → GasRoot a b high
   gas-found h = gas-root a b (fallen .found h) (fallen .positive)
 
-  pub dense-found : low < bend → DenseRoot a b low
+  dense-found : low < bend → DenseRoot a b low
   dense-found h = dense-root a b (climbed .not-positive) (climbed .found h)
 
   -- a fall that ends below the bend leaves a crossing there for the climb
@@ -23,14 +24,17 @@ module _ {a b high low : ℕ} (fallen : FallsTo a b high) (climbed : ClimbsTo a 
       by-order (yes h) = omega (arith, fallen .positive bend (omega arith), climbed .not-positive bend h)
       by-order (no f) = lt-of-not-le f
 
-  pub one-below : high < bend → GasRoot a b low × DenseRoot a b low
+  pub one-below : high < bend → BothRoots a b low low
   unfolding PositiveFrom
   one-below missed =
       let dense = dense-found (below-bend missed) in
-      (gas-is-dense a b (λ y above. fallen .positive y (omega arith)) dense, dense)
+      record { within = within; is-gas = gas-is-dense a b (λ y above. fallen .positive y (omega arith)) dense; is-dense = dense }
 
-  pub one-above : bend ≤ high → bend ≤ low → GasRoot a b high × DenseRoot a b high
+  pub one-above : bend ≤ high → bend ≤ low → BothRoots a b high high
   unfolding NotPositiveTo
   one-above found missed =
       let gas = gas-found found in
-      (gas, dense-is-gas a b (λ y below. climbed .not-positive y (omega arith)) gas)
+      record { within = within; is-gas = gas; is-dense = dense-is-gas a b (λ y below. climbed .not-positive y (omega arith)) gas }
+
+  pub one-each : bend ≤ high → low < bend → BothRoots a b high low
+  one-each above below = record { within = within; is-gas = gas-found above; is-dense = dense-found below }

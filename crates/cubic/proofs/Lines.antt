@@ -4,7 +4,6 @@ use mathlib.Core.Path.{_≡_}
 use Prim.Native.Nat.{ℕ, zero, suc, _+_, _*_, _-_, _≤_, _<_}
 use native.Mathlib.Nat.{add-zero, add-suc, add-sub-of-le}
 use native.Mathlib.Omega.{arith}
-use Rattle.cubic.specs.Cubic.{N}
 use Rattle.cubic.specs.Sides.{plus, minus, plusStep, minusStep, bend, PositiveFrom, NotPositiveTo}
 use Rattle.cubic.proofs.Shape.{plus-grows, minus-grows, Towards, upwards, downwards, towards-bend, away-from-bend}
 

@@ -1,5 +1,5 @@
--- Crossings and roots, said by the two halves of g: what shows that a number is the gas root or the dense root, and that a crossing
--- from the bend on is the one and a crossing below the bend the other. Assumes nothing.
+-- Crossings and roots, said by the two halves of g: where crossings can lie, what shows that a number is the gas root or the dense root,
+-- and that a crossing from the bend on is the one and a crossing up to the bend the other. Assumes nothing.
 use Prim.Native.Nat.{ℕ, suc, _+_, _≤_, _<_}
 use native.Mathlib.Nat.{lt-of-not-le, not-le-of-lt}
 use native.Mathlib.Numerals.{add-one}
@@ -12,48 +12,57 @@ use Rattle.cubic.proofs.Shape.{plus-grows, minus-grows}
 use Rattle.cubic.proofs.Lines.{positive-from, not-positive-to}
 
 -- a crossing, by the halves of g
-pub record Crosses (a b z : ℕ) : Type 0 where
-  pub not-positive : plus a z ≤ minus a b z
-  pub then-positive : minus a b (suc z) < plus a (suc z)
+record Crosses (a b z : ℕ) : Type 0 where
+  not-positive : plus a z ≤ minus a b z
+  then-positive : minus a b (suc z) < plus a (suc z)
 
 module _ (a b : ℕ) where
-  pub to-crossing : {z : ℕ} → Crosses a b z → Crossing a b z
+  to-crossing : {z : ℕ} → Crosses a b z → Crossing a b z
   to-crossing {z} c =
       record {
         not-positive = λ p. not-le-of-lt (of-positive a b z p) (c .not-positive);
         then-positive = rw add-one (to-positive a b (suc z) (c .then-positive));
       }
 
-  pub of-crossing : {z : ℕ} → Crossing a b z → Crosses a b z
+  of-crossing : {z : ℕ} → Crossing a b z → Crosses a b z
   of-crossing {z} c = record { not-positive = by-order (decLe (plus a z) (minus a b z)); then-positive = of-positive a b (suc z) (rw add-one at (c .then-positive)) }
     where
       by-order : Dec (plus a z ≤ minus a b z) → plus a z ≤ minus a b z
       by-order (yes h) = h
       by-order (no f) = absurd (c .not-positive (to-positive a b z (lt-of-not-le f)))
 
+  -- no crossing lies where g is positive for good, and none below where it has not been positive yet
+  pub before-positive : {high y : ℕ} → PositiveFrom a b high → Crossing a b y → y < high
+  unfolding PositiveFrom
+  before-positive {high} {y} positive c = by-order (decLe high y)
+    where
+      by-order : Dec (high ≤ y) → y < high
+      by-order (yes h) = omega (arith, of-crossing c, positive y h)
+      by-order (no f) = lt-of-not-le f
+
+  pub after-not-positive : {low y : ℕ} → NotPositiveTo a b low → Crossing a b y → low ≤ y
+  unfolding NotPositiveTo
+  after-not-positive {low} {y} not-positive c = by-order (decLe low y)
+    where
+      by-order : Dec (low ≤ y) → low ≤ y
+      by-order (yes h) = h
+      by-order (no f) = omega (arith, of-crossing c, not-positive (suc y) (omega arith))
+
   pub gas-root : {z : ℕ} → plus a z ≤ minus a b z → PositiveFrom a b (z + 1) → GasRoot a b z
   unfolding PositiveFrom
   gas-root {z} not-positive positive =
       record {
         crossing = to-crossing (record { not-positive = not-positive; then-positive = positive (suc z) (omega arith) });
-        largest = λ y c. by-order y (of-crossing c) (decLe y z);
+        largest = λ y c. omega (arith, before-positive positive c);
       }
-    where
-      by-order : (y : ℕ) → Crosses a b y → Dec (y ≤ z) → y ≤ z
-      by-order y c (yes h) = h
-      by-order y c (no f) = omega (arith, positive y (omega arith))
 
   pub dense-root : {z : ℕ} → NotPositiveTo a b z → minus a b (z + 1) < plus a (z + 1) → DenseRoot a b z
   unfolding NotPositiveTo
   dense-root {z} not-positive positive =
       record {
         crossing = to-crossing (record { not-positive = not-positive z (omega arith); then-positive = rw add-one at positive });
-        smallest = λ y c. by-order y (of-crossing c) (decLe z y);
+        smallest = λ y. after-not-positive not-positive;
       }
-    where
-      by-order : (y : ℕ) → Crosses a b y → Dec (z ≤ y) → z ≤ y
-      by-order y c (yes h) = h
-      by-order y c (no f) = omega (arith, not-positive (suc y) (omega arith))
 
   -- at a crossing the step rises
   rising : {z : ℕ} → Crosses a b z → minusStep b z < plusStep a z
@@ -69,20 +78,17 @@ module _ (a b : ℕ) where
       let c = of-crossing crossing in
       dense-root (not-positive-to a b z limit (rising c) (c .not-positive)) (rw add-one (c .then-positive))
 
-  -- where all is positive from the bend on, the dense root is the gas root too
+  -- where all is positive from the bend on the dense root is the gas root too, and where nothing is positive up to it the gas root the dense
   pub gas-is-dense : {z : ℕ} → PositiveFrom a b bend → DenseRoot a b z → GasRoot a b z
-  unfolding PositiveFrom
-  gas-is-dense {z} positive dense = record { crossing = dense .crossing; largest = λ y c. by-side y c (decLe y bend) }
-    where
-      by-side : (y : ℕ) → Crossing a b y → Dec (y ≤ bend) → y ≤ z
-      by-side y c (yes h) = dense-to-bend h c .smallest z (dense .crossing)
-      by-side y c (no f) = omega (arith, of-crossing c, positive y (omega arith))
+  gas-is-dense {z} positive dense =
+      record {
+        crossing = dense .crossing;
+        largest = λ y c. dense-to-bend (omega (arith, before-positive positive c)) c .smallest z (dense .crossing);
+      }
 
-  -- where nothing is positive up to the bend, the gas root is the dense root too
   pub dense-is-gas : {z : ℕ} → NotPositiveTo a b bend → GasRoot a b z → DenseRoot a b z
-  unfolding NotPositiveTo
-  dense-is-gas {z} not-positive gas = record { crossing = gas .crossing; smallest = λ y c. by-side y c (decLe bend y) }
-    where
-      by-side : (y : ℕ) → Crossing a b y → Dec (bend ≤ y) → z ≤ y
-      by-side y c (yes h) = gas-from-bend h c .largest z (gas .crossing)
-      by-side y c (no f) = omega (arith, of-crossing c, not-positive (suc y) (omega arith))
+  dense-is-gas {z} not-positive gas =
+      record {
+        crossing = gas .crossing;
+        smallest = λ y c. gas-from-bend (after-not-positive not-positive c) c .largest z (gas .crossing);
+      }

@@ -1,7 +1,7 @@
 -- The least number of a kind that can be tested, found from any one of the kind. Assumes nothing.
-use mathlib.Core.Path.{_≡_, subst}
+use mathlib.Core.Path.{subst}
 use mathlib.Core.Logic.{⊎-elim}
-use Prim.Native.Nat.{ℕ, zero, suc, _+_, _≤_, _<_}
+use Prim.Native.Nat.{ℕ, zero, suc, _+_, _<_}
 use native.Mathlib.Nat.{add-zero, zero-add, add-suc, suc-add, le-of-suc-le-suc, eq-or-lt-of-le, not-suc-le-zero}
 
 pub record Least (P : ℕ → Type 0) : Type 0 where

@@ -6,15 +6,15 @@ use mathlib.Core.Logic.{_⊎_, inl, inr}
 use Prim.Native.Nat.{ℕ, _+_, _≤_, _<_}
 use native.Mathlib.Nat.{le-antisymm, le-of-lt, lt-of-not-le, not-le-of-lt}
 use native.Mathlib.Omega.{arith}
-use native.Mathlib.Decide.{decLe}
+use native.Mathlib.Decide.{decLe, ℕ-discrete}
 use Rattle.cubic.specs.Cubic.{N, g, Positive, Crossing, GasRoot, DenseRoot, Kind, ONE, SPLIT, IsKind}
-use Rattle.cubic.specs.Sides.{bend}
+use Rattle.cubic.specs.Sides.{bend, PositiveFrom, NotPositiveTo}
 use Rattle.cubic.specs.Promise.{Solves}
 use Rattle.cubic.specs.declared.Solution.{Solution}
 use Rattle.cubic.specs.declared.Solution.the-variants.{Roots, OutOfBounds}
 use Rattle.cubic.proofs.Signed.{to-positive, of-positive}
 use Rattle.cubic.proofs.Shape.{to-b, above-grid}
-use Rattle.cubic.proofs.Roots.{gas-from-bend, dense-to-bend}
+use Rattle.cubic.proofs.Roots.{before-positive, after-not-positive, gas-from-bend, dense-to-bend}
 use Rattle.cubic.proofs.Existence.{gas-exists, dense-exists}
 
 module _ (a b : ℕ) where
@@ -52,26 +52,28 @@ module _ (a b : ℕ) where
 
   -- every crossing lies from b to N + b; so a root is at least 1 where b is
   pub crossing-from-b : (z : ℕ) → Crossing a b z → b ≤ z
-  crossing-from-b z c = by-order (decLe b z)
-    where
-      by-order : Dec (b ≤ z) → b ≤ z
-      by-order (yes h) = h
-      by-order (no f) = absurd (not-positive-to-b (z + 1) (omega arith) (c .then-positive))
+  unfolding NotPositiveTo
+  crossing-from-b z c = after-not-positive a b {low = b} (to-b a b) c
 
   pub crossing-on-grid : (z : ℕ) → Crossing a b z → z ≤ N + b
-  crossing-on-grid z c = by-order (decLe z (N + b))
-    where
-      by-order : Dec (z ≤ N + b) → z ≤ N + b
-      by-order (yes h) = h
-      by-order (no f) = absurd (c .not-positive (positive-above-grid z (lt-of-not-le f)))
+  unfolding PositiveFrom
+  crossing-on-grid z c = omega (arith, before-positive a b {high = N + b + 1} (λ y h. above-grid a b y (omega arith)) c)
 
   -- two answers that keep what `solve` promises are equal
   pub solution-determined : (r s : Solution) → Solves a b r → Solves a b s → r ≡ s
   solution-determined (Roots gas dense) (Roots gas′ dense′) p q =
-      ap₂ Roots (gas-root-unique (p .1) (q .1)) (dense-root-unique (p .2) (q .2))
-  solution-determined (Roots gas dense) OutOfBounds p q = absurd (q (p .0))
-  solution-determined OutOfBounds (Roots gas dense) p q = absurd (p (q .0))
+      ap₂ Roots (gas-root-unique (p .is-gas) (q .is-gas)) (dense-root-unique (p .is-dense) (q .is-dense))
+  solution-determined (Roots gas dense) OutOfBounds p q = absurd (q (p .within))
+  solution-determined OutOfBounds (Roots gas dense) p q = absurd (p (q .within))
   solution-determined OutOfBounds OutOfBounds p q = refl
+
+-- every two roots have one kind
+pub kind-exists : (gas dense : ℕ) → (k : Kind) × IsKind gas dense k
+kind-exists gas dense = by-test (ℕ-discrete gas dense)
+  where
+    by-test : Dec (gas ≡ dense) → (k : Kind) × IsKind gas dense k
+    by-test (yes same) = (ONE, same)
+    by-test (no other) = (SPLIT, other)
 
 pub kind-determined : (gas dense : ℕ) (k l : Kind) → IsKind gas dense k → IsKind gas dense l → k ≡ l
 kind-determined gas dense ONE ONE p q = refl

@@ -16,6 +16,11 @@ pub record Within (a b : ℕ) : Type 0 where
   pub a-fits : a ≤ largestA
   pub b-fits : b ≤ largestB
 
+pub record BothRoots (a b gas dense : ℕ) : Type 0 where
+  pub within : Within a b
+  pub is-gas : GasRoot a b gas
+  pub is-dense : DenseRoot a b dense
+
 abbrev pub Solves : (a b : ℕ) → Solution → Type 0
-Solves a b (Roots gas dense) = Within a b × GasRoot a b gas × DenseRoot a b dense
+Solves a b (Roots gas dense) = BothRoots a b gas dense
 Solves a b OutOfBounds = Within a b → ⊥

@@ -1,7 +1,6 @@
 -- `cubic::solve` meets its contract: the ends of the two searches are the roots (`Ends.antt`). Assumes nothing.
 use native.Mathlib.Omega.{arith}
-use Rattle.cubic.specs.Promise.{Within}
-use Rattle.cubic.proofs.Ends.{gas-found, dense-found, one-below, one-above}
+use Rattle.cubic.proofs.Ends.{one-below, one-above, one-each}
 use Rattle.cubic.proofs.solve.Statement.{statement}
 use Rattle.cubic.proofs.solve.Tie as tie
 
@@ -21,20 +20,13 @@ climb-requires : tie.Need-climb-requires
 climb-requires c κs = omega arith
 
 returns-3 : tie.Need-returns-3
-returns-3 c =
-    let roots = one-below (c .before .before .fall .ensures) (c .before .climb .ensures) (omega arith) in
-    (omega arith, roots .0, roots .1)
+returns-3 c = one-below (omega arith) (c .before .before .fall .ensures) (c .before .climb .ensures) (omega arith)
 
 returns-4 : tie.Need-returns-4
-returns-4 c =
-    let roots = one-above (c .before .before .before .fall .ensures) (c .before .before .climb .ensures) (omega arith) (omega arith) in
-    (omega arith, roots .0, roots .1)
+returns-4 c = one-above (omega arith) (c .before .before .before .fall .ensures) (c .before .before .climb .ensures) (omega arith) (omega arith)
 
 returns-5 : tie.Need-returns-5
-returns-5 c =
-    let fallen = c .before .before .before .fall .ensures in
-    let climbed = c .before .before .climb .ensures in
-    (omega arith, gas-found fallen climbed (omega arith), dense-found fallen climbed (omega arith))
+returns-5 c = one-each (omega arith) (c .before .before .before .fall .ensures) (c .before .before .climb .ensures) (omega arith) (omega arith)
 
 pub solve-spec : {M : Type 1} → statement M
 solve-spec =

@@ -6,7 +6,7 @@
 //! `list` chooses points "a b start"; `scan` answers each by looking at every place of the grid, and
 //! never looks at the start.
 
-use second::cubic::crossings;
+use second::cubic::{crossings, g};
 use std::collections::HashMap;
 use std::io::{self, BufWriter, Read, Write};
 
@@ -41,8 +41,13 @@ fn scan() -> io::Result<()> {
     let mut known: HashMap<(u64, u64), Vec<u64>> = HashMap::new();
     let mut out = BufWriter::new(io::stdout().lock());
     for line in text.lines() {
-        let numbers: Vec<u64> = line.split(' ').map(|word| word.parse().expect("a number")).collect();
-        let [a, b, _start] = numbers[..] else { panic!("three numbers in a line: {line}") };
+        let numbers: Vec<u64> = line
+            .split(' ')
+            .map(|word| word.parse().expect("a number"))
+            .collect();
+        let [a, b, _start] = numbers[..] else {
+            panic!("three numbers in a line: {line}")
+        };
         if !within(a, b) {
             writeln!(out, "{line} OUT OF BOUNDS")?;
             continue;
@@ -61,7 +66,6 @@ fn scan() -> io::Result<()> {
 struct List {
     text: String,
     turn: usize,
-    random: Random,
 }
 
 impl List {
@@ -86,14 +90,88 @@ impl List {
 
 /// Zeros, the roots and their neighbours, the bend, the grid's ends, a stranger's and senseless numbers.
 fn starts(a: u64, b: u64) -> Vec<u64> {
-    let mut all = vec![0, BEND - 1, BEND, 92_696, 100_000 + b, 100_001 + b, 4_294_967_295, u64::MAX];
+    let mut all = vec![0, BEND - 1, BEND, 92_696];
+    all.extend([100_000 + b, 100_001 + b, 4_294_967_295, u64::MAX]);
     for root in crossings(a, b) {
         all.extend([root.saturating_sub(1), root, root + 1]);
     }
     all
 }
 
-/// The a in the range at which the number of crossings is about to change, by halving.
+fn list() -> io::Result<()> {
+    let mut list = List {
+        text: String::new(),
+        turn: 0,
+    };
+    worked_states(&mut list);
+    ends_of_bounds(&mut list);
+    double_roots(&mut list);
+    crossings_at_the_bend(&mut list);
+    critical_point(&mut list);
+    spread(&mut list);
+    io::stdout().write_all(list.text.as_bytes())
+}
+
+/// Document 01's worked states; the SPLIT one first with no start, its roots, their upper neighbours
+/// and the largest number that a book can hold.
+fn worked_states(list: &mut List) {
+    for start in [0, 1699, 1700, 92_696, 92_697, 4_294_967_295] {
+        list.point(7984, 1106, start);
+    }
+    for (a, b) in [(0, 1), (7984, 1106), (1616, 885), (165, 637)] {
+        list.all_starts(a, b);
+    }
+}
+
+/// The ends of the bounds, what lies past them, and the greatest a and b of each fluid's states.
+fn ends_of_bounds(list: &mut List) {
+    for a in [0, 1, LARGEST_A - 1, LARGEST_A] {
+        for b in [0, 1, BEND - 1, BEND, BEND + 1, LARGEST_B - 1, LARGEST_B] {
+            list.one_start(a, b);
+            list.one_start(a, b);
+        }
+    }
+    for a in [LARGEST_A + 1, u64::MAX] {
+        list.point(a, 1, 0);
+        list.point(a, u64::MAX, u64::MAX);
+    }
+    for b in [LARGEST_B + 1, u64::MAX] {
+        list.point(0, b, 0);
+        list.point(LARGEST_A, b, u64::MAX);
+    }
+    for (a, b) in [
+        (10_969_036, 954_341),
+        (5_369_500, 237_212),
+        (3_437_284, 251_566),
+    ] {
+        list.all_starts(a, b);
+    }
+}
+
+/// Both sides of each double root: for these b the state is ONE, then SPLIT, then ONE again as a grows.
+fn double_roots(list: &mut List) {
+    for b in [
+        1, 2, 10, 100, 500, 1106, 2000, 4000, 6000, 8000, 8500, 8600, 8640, 8655,
+    ] {
+        // the SPLIT states are few near the critical point, where every a is looked at
+        let split = (0..60_000)
+            .step_by(7)
+            .chain(42_000..43_000)
+            .find(|&a| crossings(a, b).len() == 2)
+            .expect("a SPLIT state");
+        for edge in [
+            last_before_change(b, 0, split),
+            last_before_change(b, split, 60_000),
+        ] {
+            for a in edge.saturating_sub(1)..=edge + 2 {
+                list.one_start(a, b);
+                list.one_start(a, b);
+            }
+        }
+    }
+}
+
+/// The last a from `low` on with as many crossings as there, when at `high` there are not.
 fn last_before_change(b: u64, mut low: u64, mut high: u64) -> u64 {
     let count = crossings(low, b).len();
     while high - low > 1 {
@@ -107,66 +185,49 @@ fn last_before_change(b: u64, mut low: u64, mut high: u64) -> u64 {
     low
 }
 
-fn list() -> io::Result<()> {
-    let mut list = List { text: String::new(), turn: 0, random: Random(0x5EED) };
-
-    // document 01's worked states, the SPLIT one with the starts that the tests have always had
-    for start in [0, 1699, 1700, 92_696, 92_697, 4_294_967_295] {
-        list.point(7984, 1106, start);
-    }
-    for (a, b) in [(0, 1), (7984, 1106), (1616, 885), (165, 637)] {
-        list.all_starts(a, b);
-    }
-
-    // the ends of the bounds and what lies past them
-    for a in [0, 1, LARGEST_A - 1, LARGEST_A] {
-        for b in [0, 1, BEND - 1, BEND, BEND + 1, LARGEST_B - 1, LARGEST_B] {
-            list.one_start(a, b);
-            list.one_start(a, b);
-        }
-    }
-    for (a, b) in [(LARGEST_A + 1, 1), (0, LARGEST_B + 1), (LARGEST_A + 1, LARGEST_B + 1), (u64::MAX, u64::MAX)] {
-        list.point(a, b, 0);
-        list.point(a, b, u64::MAX);
-    }
-
-    // the greatest a and b of each fluid's states
-    for (a, b) in [(10_969_036, 954_341), (5_369_500, 237_212), (3_437_284, 251_566)] {
-        list.all_starts(a, b);
-    }
-
-    // both sides of each double root: for these b the state is ONE, then SPLIT, then ONE as a grows
-    for b in [1, 2, 10, 100, 500, 1106, 2000, 4000, 6000, 8000, 8500, 8600, 8640, 8655] {
-        let split = (0..60_000).step_by(7).find(|&a| crossings(a, b).len() == 2);
-        let Some(split) = split else { continue };
-        let first = last_before_change(b, 0, split);
-        let last = last_before_change(b, split, 60_000);
-        for edge in [first, last] {
-            for a in edge.saturating_sub(1)..=edge + 2 {
-                list.one_start(a, b);
-                list.one_start(a, b);
+/// States with a crossing at the bend or beside it, where the one search hands over to the other.
+fn crossings_at_the_bend(list: &mut List) {
+    for z in BEND - 2..=BEND + 2 {
+        for b in (0..BEND - 2).step_by(997) {
+            // above b, g at a place grows with a: the last a at which it is not positive at z
+            let (mut low, mut high) = (0, LARGEST_A);
+            while high - low > 1 {
+                let middle = low + (high - low) / 2;
+                if g(middle, b, z) <= 0 {
+                    low = middle;
+                } else {
+                    high = middle;
+                }
+            }
+            if crossings(low, b).contains(&z) {
+                list.one_start(low, b);
+                list.one_start(low, b);
             }
         }
     }
+}
 
-    // around the critical point, where the three real roots meet at the bend
+/// Around the critical point, where the three real roots meet at a third of the grid.
+fn critical_point(list: &mut List) {
     for a in 42_744..=42_752 {
         for b in 8_660..=8_668 {
             list.one_start(a, b);
         }
     }
+}
 
-    // a spread over all magnitudes
+/// All magnitudes, the region of SPLIT states more often than the rest, until the list is full.
+fn spread(list: &mut List) {
+    let mut random = Random(0x5EED);
     while list.text.len() < LARGEST_LIST - 64 {
-        let a = list.random.magnitude(LARGEST_A);
-        let b = list.random.magnitude(LARGEST_B);
-        if list.random.next() % 4 == 0 {
+        let a = random.magnitude(LARGEST_A);
+        let b = random.magnitude(LARGEST_B);
+        if random.next() < u64::MAX / 4 {
             list.one_start(a, b);
         } else {
             list.one_start(a % 60_000, b % 9_000);
         }
     }
-    io::stdout().write_all(list.text.as_bytes())
 }
 
 /// Numbers that are the same in every run (Steele, Lea and Flood's SplitMix).

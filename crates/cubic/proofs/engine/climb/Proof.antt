@@ -1,12 +1,13 @@
 -- `cubic::engine::climb` meets its contract. The loop's invariant: the search stands at `low`, before the bend. The measure is the way
--- left to the bend. What a turn may conclude is in `Turns.antt`. Assumes nothing.
+-- left to the bend. What a turn may conclude is in `Climbs.antt`. Assumes nothing.
 use mathlib.Core.Path.{_≡_}
 use Prim.Native.Nat.{ℕ, _+_, _-_, _≤_}
 use native.Mathlib.Nat.{pos-of-ne-zero}
 use native.Mathlib.Omega.{arith}
 use Rattle.cubic.specs.Sides.{bend, NotPositiveTo, ClimbsFrom}
 use Rattle.cubic.proofs.Shape.{to-b}
-use Rattle.cubic.proofs.Turns.{Climbing, jump, moves, not-positive-at, climb-flat, climb-misses, climb-finds, climb-goes-on}
+use Rattle.cubic.proofs.Room.{jump, moves}
+use Rattle.cubic.proofs.Climbs.{Climbing, not-positive-at, climb-flat, climb-misses, climb-finds, climb-goes-on}
 use Rattle.cubic.proofs.engine.climb.Statement.{statement}
 use Rattle.cubic.proofs.engine.climb.Tie as tie
 

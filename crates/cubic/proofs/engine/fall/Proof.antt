@@ -1,11 +1,12 @@
 -- `cubic::engine::fall` meets its contract. The loop's invariant: the search may begin at `high`. The measure is `high`.
--- What a turn may conclude is in `Turns.antt`. Assumes nothing.
+-- What a turn may conclude is in `Falls.antt`. Assumes nothing.
 use mathlib.Core.Path.{_≡_}
 use Prim.Native.Nat.{ℕ, _+_, _<_}
 use native.Mathlib.Nat.{pos-of-ne-zero}
 use native.Mathlib.Omega.{arith}
 use Rattle.cubic.specs.Sides.{FallsFrom}
-use Rattle.cubic.proofs.Turns.{Falling, jump, moves, positive-at, fall-flat, fall-misses, fall-finds, fall-goes-on}
+use Rattle.cubic.proofs.Room.{jump, moves}
+use Rattle.cubic.proofs.Falls.{Falling, positive-at, fall-flat, fall-misses, fall-finds, fall-goes-on}
 use Rattle.cubic.proofs.engine.fall.Statement.{statement}
 use Rattle.cubic.proofs.engine.fall.Tie as tie
 

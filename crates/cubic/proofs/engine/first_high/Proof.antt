@@ -2,7 +2,7 @@
 -- Assumes nothing.
 use native.Mathlib.Nat.{pos-of-ne-zero}
 use native.Mathlib.Omega.{arith}
-use Rattle.cubic.proofs.Turns.{from-top, from-start}
+use Rattle.cubic.proofs.Falls.{from-top, from-start}
 use Rattle.cubic.proofs.engine.first_high.Statement.{statement}
 use Rattle.cubic.proofs.engine.first_high.Tie as tie
 

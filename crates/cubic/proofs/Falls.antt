@@ -1,0 +1,71 @@
+-- The search from above: where it may begin, and what a turn of it may conclude. Assumes nothing.
+use mathlib.Core.Path.{_≡_}
+use Prim.Native.Nat.{ℕ, suc, _+_, _-_, _/_, _≤_, _<_}
+use native.Mathlib.Numerals.{add-one}
+use native.Mathlib.Omega.{arith}
+use native.Mathlib.Decide.{decLe}
+use Rattle.cubic.specs.Cubic.{N}
+use Rattle.cubic.specs.Sides.{plus, minus, rise, bend, PositiveFrom, FallsFrom, FallsTo}
+use Rattle.cubic.proofs.Shape.{above-grid, downwards}
+use Rattle.cubic.proofs.Lines.{positive-from}
+use Rattle.cubic.proofs.Room.{Allows, flat, jump, gentle, steep}
+
+module _ (a b : ℕ) where
+  -- above N + b g is positive for good
+  pub from-top : {top : ℕ} → N + b < top → top ≤ N + b + 1 → FallsFrom a b top
+  unfolding PositiveFrom
+  from-top above within = record { past-bend = omega arith; on-grid = within; positive = λ y higher. above-grid a b y (omega arith) }
+
+  -- and so it is above a start from the bend on at which it rises to a positive value
+  pub from-start : {slope : ℕ} (start : ℕ) → bend ≤ start → start < N + b + 1 → slope ≡ rise a b start → 0 < slope → minus a b (start + 1) < plus a (start + 1) → FallsFrom a b (start + 1)
+  unfolding rise
+  from-start start limit within is-slope some positive =
+      record {
+        past-bend = omega arith;
+        on-grid = omega arith;
+        positive = rw add-one (positive-from a b start limit (omega arith) (rw add-one at positive));
+      }
+
+  pub positive-at : {high : ℕ} → FallsFrom a b high → minus a b high < plus a high
+  unfolding PositiveFrom
+  positive-at {high} begins = begins .positive high (omega arith)
+
+-- A turn of the search from above, by its values: the room is what g has above 1 at `high`, the slope that of the step below `high`.
+pub record Falling (a b high room slope : ℕ) : Type 0 where
+  pub is-room : minus a b high + room + 1 ≡ plus a high
+  pub is-slope : slope ≡ rise a b (high - 1)
+  pub begins : FallsFrom a b high
+
+module _ {a b high room slope : ℕ} where
+  stays-positive : (z : ℕ) → bend ≤ z → Allows room slope (high - z) → Falling a b high room slope → PositiveFrom a b z
+  unfolding PositiveFrom
+  stays-positive z limit allows turn y above = by-order (decLe high y)
+    where
+      by-order : Dec (high ≤ y) → minus a b y < plus a y
+      by-order (yes h) = turn .begins .positive y h
+      by-order (no f) =
+          omega (arith, turn .is-room, gentle a b (high - 1) y high (turn .is-slope) allows (omega arith) (omega arith) (λ w from to. downwards (omega arith) (omega arith)))
+
+  pub fall-misses : Allows room slope (high - bend) → Falling a b high room slope → FallsTo a b (bend - 1)
+  fall-misses allows turn = record { positive = stays-positive bend (omega arith) allows turn; found = λ h. omega arith }
+
+  pub fall-finds : room < slope → Falling a b high room slope → FallsTo a b (high - 1)
+  fall-finds small turn =
+      let after : suc (high - 1) ≡ high = omega (arith, turn .begins .past-bend) in
+      record {
+        positive = rw (add-one, after) (turn .begins .positive);
+        found = λ h. omega (arith, turn .is-room, rw after at (steep a b (high - 1) (turn .is-slope) small));
+      }
+
+  pub fall-goes-on : room / slope < high - bend → Falling a b high room slope → FallsFrom a b (high - room / slope)
+  fall-goes-on near turn =
+      record {
+        past-bend = omega arith;
+        on-grid = omega (arith, turn .begins .on-grid);
+        positive = stays-positive (high - room / slope) (omega arith) (jump (omega arith)) turn;
+      }
+
+-- where g does not rise below `high`, no room needs to be worked out
+pub fall-flat : {a b high slope : ℕ} → slope ≡ 0 → slope ≡ rise a b (high - 1) → FallsFrom a b high → FallsTo a b (bend - 1)
+fall-flat {a} {b} {high} none is-slope begins =
+    fall-misses {room = plus a high - minus a b high - 1} (flat none) (record { is-room = omega (arith, positive-at a b begins); is-slope = is-slope; begins = begins })
