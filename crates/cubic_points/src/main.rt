@@ -14,12 +14,12 @@ struct Number {
     next: usize,
 }
 
-// The value with one more decimal digit, or the largest number where that does not hold it.
-fn with_digit(value: u64, digit: u8) -> u64 {
-    if LARGEST / 10 <= value {
+// The value with one more decimal digit, or the largest number where 64 bits do not hold it.
+fn with_digit(value: u64, digit: u64) -> u64 {
+    if (LARGEST - digit) / 10 < value {
         return LARGEST;
     }
-    value * 10 + (digit % 10) as u64
+    value * 10 + digit
 }
 
 // The number whose digits stand from `at` on, and the place past the byte that ends it.
@@ -37,7 +37,7 @@ fn number_at(text: &[u8], at: usize) -> Number
         if 57 < byte {
             break;
         }
-        value = with_digit(value, byte - 48);
+        value = with_digit(value, (byte - 48) as u64);
         place += 1;
     }
     Number {

@@ -18,6 +18,9 @@ loop-holds c = omega arith
 shared-slice-read-byte : tie.Need-shared-slice-read-byte Inv-loop μ-loop
 shared-slice-read-byte c = omega arith
 
+cast-with-digit : tie.Need-cast-with-digit Inv-loop μ-loop
+cast-with-digit c = omega arith
+
 with-digit-requires : tie.Need-with-digit-requires Inv-loop μ-loop
 with-digit-requires c κs = tt
 
@@ -30,8 +33,8 @@ loop-less c = omega arith
 loop-again : tie.Need-loop-again Inv-loop μ-loop
 loop-again c = omega arith
 
-add-t10 : tie.Need-add-t10 Inv-loop μ-loop
-add-t10 c = omega arith
+add-t11 : tie.Need-add-t11 Inv-loop μ-loop
+add-t11 c = omega arith
 
 returns : tie.Need-returns Inv-loop μ-loop
 returns c = omega arith
@@ -44,9 +47,10 @@ number-at-spec =
     μ-loop
     loop-holds
     shared-slice-read-byte
+    cast-with-digit
     with-digit-requires
     add-place
     loop-less
     loop-again
-    add-t10
+    add-t11
     returns)

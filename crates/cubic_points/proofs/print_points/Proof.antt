@@ -1,3 +1,5 @@
+-- `cubic_points::print_points` ends and counts no further than the text is long. The loop's invariant: there are no more points than bytes
+-- passed, and the last point was read at most three bytes past the end. The measure is what is left of the text. Assumes nothing.
 use Prim.Native.Nat.{_+_, _-_, _≤_}
 use native.Mathlib.Omega.{arith}
 use lib.ListN.{length}
