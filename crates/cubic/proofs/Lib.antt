@@ -1,4 +1,4 @@
--- The laws that belong to no one function, each file above the ones that it cites.
+-- The laws that belong to no one function. Each file cites only files that are named above it.
 pub mod Signed
 pub mod Shape
 pub mod Lines
