@@ -17,20 +17,20 @@ module _ (a b : ℕ) where
   top = N + b + 1
 
   -- m steps below the top g is not positive
-  abbrev NotPositive : ℕ → Type 0
-  NotPositive m = plus a (top - m) ≤ minus a b (top - m)
+  abbrev NotPositiveBelowTop : ℕ → Type 0
+  NotPositiveBelowTop m = plus a (top - m) ≤ minus a b (top - m)
 
-  abbrev Positive : ℕ → Type 0
-  Positive z = minus a b z < plus a z
+  abbrev PositiveAt : ℕ → Type 0
+  PositiveAt z = minus a b z < plus a z
 
   pub gas-exists : (z : ℕ) × GasRoot a b z
   unfolding PositiveFrom
   gas-exists = (top - down .at, gas-root a b (down .holds) (λ y above. by-grid y above (decLe y (N + b))))
     where
-      down : Least NotPositive
-      down = least NotPositive (λ m. decLe (plus a (top - m)) (minus a b (top - m))) top (rw sub-self (to-b a b 0 (omega arith)))
+      down : Least NotPositiveBelowTop
+      down = least NotPositiveBelowTop (λ m. decLe (plus a (top - m)) (minus a b (top - m))) top (rw sub-self (to-b a b 0 (omega arith)))
 
-      by-grid : (y : ℕ) → top - down .at + 1 ≤ y → Dec (y ≤ N + b) → Positive y
+      by-grid : (y : ℕ) → top - down .at + 1 ≤ y → Dec (y ≤ N + b) → PositiveAt y
       by-grid y above (yes within) =
           let back : top - (top - y) ≡ y = omega arith in
           lt-of-not-le (rw back at (down .none-before (top - y) (omega arith)))
@@ -40,9 +40,9 @@ module _ (a b : ℕ) where
   unfolding NotPositiveTo
   dense-exists = from (up .at) (up .holds) (up .none-before)
     where
-      up : Least Positive
-      up = least Positive (λ z. decLt (minus a b z) (plus a z)) top (above-grid a b top (omega arith))
+      up : Least PositiveAt
+      up = least PositiveAt (λ z. decLt (minus a b z) (plus a z)) top (above-grid a b top (omega arith))
 
-      from : (m : ℕ) → Positive m → ((y : ℕ) → y < m → Positive y → ⊥) → (z : ℕ) × DenseRoot a b z
+      from : (m : ℕ) → PositiveAt m → ((y : ℕ) → y < m → PositiveAt y → ⊥) → (z : ℕ) × DenseRoot a b z
       from zero positive none = absurd (omega (arith, to-b a b 0 (omega arith)))
       from (suc z) positive none = (z, dense-root a b (λ y below. omega (arith, none y (omega arith))) (rw add-one positive))

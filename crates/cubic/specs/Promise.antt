@@ -1,4 +1,5 @@
--- What `solve` promises: the two roots of the definitions, or that a or b is too large for 64 bits. No starting point occurs here.
+-- What `solve` promises: the two roots of the definitions, or that a or b lies outside bounds within which 64 bits suffice.
+-- No starting point occurs here.
 use Prim.Native.Nat.{ℕ, _≤_}
 use Rattle.cubic.specs.Cubic.{GasRoot, DenseRoot}
 use Rattle.cubic.specs.declared.Solution.{Solution}

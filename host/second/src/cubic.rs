@@ -1,17 +1,18 @@
 //! Document 01, "From a state to the cubic": every crossing, by looking at every place of the grid.
 
-const N: i128 = 100_000;
+/// The grid.
+pub const N: u64 = 100_000;
 
 /// g as the paper writes it.
 pub fn g(a: u64, b: u64, z: u64) -> i128 {
-    let (a, b, z) = (i128::from(a), i128::from(b), i128::from(z));
-    z * z * z - N * z * z + (N * a - b * b - N * b) * z - N * a * b
+    let [n, a, b, z] = [N, a, b, z].map(i128::from);
+    z * z * z - n * z * z + (n * a - b * b - n * b) * z - n * a * b
 }
 
 /// All crossings from 0 to 2 (N + b), smallest first. The paper says that g is positive above N + b;
 /// the scan goes twice as far and so does not lean on that.
 pub fn crossings(a: u64, b: u64) -> Vec<u64> {
-    let end = 2 * (100_000 + b);
+    let end = 2 * (N + b);
     let mut found = Vec::new();
     let mut here = g(a, b, 0);
     for z in 0..end {

@@ -6,7 +6,7 @@
 //! `list` chooses points "a b start"; `scan` answers each by looking at every place of the grid, and
 //! never looks at the start.
 
-use second::cubic::{crossings, g};
+use second::cubic::{crossings, g, N};
 use std::collections::HashMap;
 use std::io::{self, BufWriter, Read, Write};
 
@@ -91,7 +91,7 @@ impl List {
 /// Zeros, the roots and their neighbours, the bend, the grid's ends, a stranger's and senseless numbers.
 fn starts(a: u64, b: u64) -> Vec<u64> {
     let mut all = vec![0, BEND - 1, BEND, 92_696];
-    all.extend([100_000 + b, 100_001 + b, 4_294_967_295, u64::MAX]);
+    all.extend([N + b, N + b + 1, 4_294_967_295, u64::MAX]);
     for root in crossings(a, b) {
         all.extend([root.saturating_sub(1), root, root + 1]);
     }

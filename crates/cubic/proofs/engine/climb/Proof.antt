@@ -19,11 +19,11 @@ abbrev μ-loop : tie.MeasureT-loop
 
 returns : tie.Need-returns Inv-loop μ-loop
 unfolding NotPositiveTo
-returns c = record { not-positive = to-b _ _; found = λ h. omega arith }
+returns c = record { not-positive = λ y h. to-b _ _ y (omega arith); found = λ h. omega arith }
 
 loop-holds : tie.Need-loop-holds Inv-loop μ-loop
 unfolding NotPositiveTo
-loop-holds c = record { before-bend = omega arith; not-positive = to-b _ _ }
+loop-holds c = record { before-bend = omega arith; not-positive = λ y h. to-b _ _ y (omega arith) }
 
 rise-requires : tie.Need-rise-requires Inv-loop μ-loop
 rise-requires c κs = (c .before .before .pre, omega arith)
