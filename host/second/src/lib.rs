@@ -2,3 +2,4 @@
 //! what the proved crates answer is compared with it. It shares no code with them.
 
 pub mod cubic;
+pub mod state;

@@ -1,0 +1,6 @@
+-- The laws that belong to no one function. Each file cites only files that are named above it.
+pub mod Quotients
+pub mod Squares
+pub mod Ranges
+pub mod Parts
+pub mod Theorems

@@ -1,0 +1,19 @@
+-- Quotients rounded down: they keep the order, and one can be worked out in parts. Assumes nothing.
+use mathlib.Core.Path.{_≡_, sym, ap}
+use Prim.Native.Nat.{ℕ, _+_, _*_, _/_, _%_, _≤_, _<_}
+use native.Mathlib.Nat.{mul-le-mul-left, div-mul-le-self, div-add-mod, le-div-iff-mul-le, mul-add-div-right}
+use native.Mathlib.Omega.{arith}
+
+pub quotient-from : {k x c : ℕ} → 0 < c → k * c ≤ x → k ≤ x / c
+quotient-from some times = le-div-iff-mul-le some .1 times
+
+-- more above the bar and less below it make no smaller quotient
+pub quotient-grows : {x y c d : ℕ} → 0 < d → d ≤ c → x ≤ y → x / c ≤ y / d
+quotient-grows {x} {y} {c} {d} some less more =
+    quotient-from some (omega (arith, div-mul-le-self x c, mul-le-mul-left (x / c) less))
+
+-- What x leaves over m is carried on: x c + y is (x / m) c times m, and (x % m) c + y more.
+pub in-parts : (x c y m : ℕ) → 0 < m → x / m * c + (x % m * c + y) / m ≡ (x * c + y) / m
+in-parts x c y m some =
+    let whole : x / m * c * m + (x % m * c + y) ≡ x * c + y = omega (arith, ap (λ (t : ℕ). t * c) (div-add-mod x m)) in
+    sym (rw whole at (mul-add-div-right some (x / m * c) (x % m * c + y)))

@@ -1,0 +1,6 @@
+-- What a reader must believe of the fluids: their figures, the way from a state to the cubic, densities, and what the public calls promise.
+pub mod Figures
+pub mod Reduced
+pub mod Densities
+pub mod Promise
+pub mod Inside

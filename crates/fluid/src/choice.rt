@@ -1,0 +1,50 @@
+// The choice of a fluid. A further fluid is a further type beside Hydrogen and Oxygen, and a further
+// case in this file.
+ghost use mathlib.Core.Path.{_≡_};
+ghost use Prim.Native.Nat.{_≤_};
+ghost use Rattle.fluid.specs.Figures.{hottest};
+ghost use Rattle.fluid.specs.Inside.{figuresOf};
+ghost use Rattle.fluid.specs.Promise.{Numbers};
+use crate::hydrogen::Hydrogen;
+use crate::oxygen::Oxygen;
+
+pub enum Fluid {
+    Hydrogen,
+    Oxygen,
+}
+
+pub enum Numbered {
+    Fluid(Fluid),
+    NoFluid,
+}
+
+// What a fluid brings to the cubic and to a density.
+pub(crate) struct Figures {
+    pub coldest_millikelvin: u64,
+    pub critical_millikelvin: u64,
+    pub critical_pascals: u64,
+    pub density_factor: u64,
+}
+
+// The fluid that document 01 numbers so.
+pub fn of_number(number: u64) -> Numbered
+    ensures { λ r. ⌜ Numbers number r ⌝ }
+{
+    if number == 0 {
+        return Numbered::Fluid(Fluid::Hydrogen);
+    }
+    if number == 1 {
+        return Numbered::Fluid(Fluid::Oxygen);
+    }
+    Numbered::NoFluid
+}
+
+pub(crate) fn figures_at(fluid: Fluid, millikelvin: u64) -> Figures
+    requires { ⌜ millikelvin ≤ hottest ⌝ }
+    ensures { λ r. ⌜ r ≡ figuresOf fluid millikelvin ⌝ }
+{
+    match fluid {
+        Fluid::Hydrogen => Hydrogen::figures_at(millikelvin),
+        Fluid::Oxygen => Oxygen::figures(),
+    }
+}

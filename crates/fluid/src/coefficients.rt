@@ -1,0 +1,62 @@
+// From a state to the coefficients of the cubic (document 01, "From a state to the cubic").
+ghost use Rattle.fluid.specs.Promise.{ReducesTo};
+use crate::choice::Fluid;
+use crate::choice::figures_at;
+use crate::root::square_root;
+
+// The ends that all fluids share.
+pub(crate) const HOTTEST_MILLIKELVIN: u64 = 1_000_000;
+
+const LOWEST_PASCALS: u64 = 10_000;
+
+pub(crate) const HIGHEST_PASCALS: u64 = 50_000_000;
+
+// 0.42748 and 0.08664, times the units of t, p, s and of the hundred-thousandths of a and b.
+const FACTOR_OF_A: u64 = 42_748_000_000;
+
+const FACTOR_OF_B: u64 = 8_664;
+
+// t in ten-thousandths and p in millionths of the critical constants, s, and A* and B* in
+// hundred-thousandths.
+pub struct Reduced {
+    pub t: u64,
+    pub p: u64,
+    pub s: u64,
+    pub a: u64,
+    pub b: u64,
+}
+
+pub enum Reduction {
+    To(Reduced),
+    TemperatureOutOfRange,
+    PressureOutOfRange,
+}
+
+// t, p, s, a and b of a state, or which of its two numbers is out of range, the temperature first.
+pub fn reduce(fluid: Fluid, millikelvin: u64, pascals: u64) -> Reduction
+    ensures { λ r. ⌜ ReducesTo fluid millikelvin pascals r ⌝ }
+{
+    if HOTTEST_MILLIKELVIN < millikelvin {
+        return Reduction::TemperatureOutOfRange;
+    }
+    let figures = figures_at(fluid, millikelvin);
+    if millikelvin < figures.coldest_millikelvin {
+        return Reduction::TemperatureOutOfRange;
+    }
+    if pascals < LOWEST_PASCALS {
+        return Reduction::PressureOutOfRange;
+    }
+    if HIGHEST_PASCALS < pascals {
+        return Reduction::PressureOutOfRange;
+    }
+    let t = 10_000 * millikelvin / figures.critical_millikelvin;
+    let p = 1_000_000 * pascals / figures.critical_pascals;
+    let s = square_root(10_000 * t);
+    Reduction::To(Reduced {
+        t,
+        p,
+        s,
+        a: FACTOR_OF_A * p / (t * t * s),
+        b: FACTOR_OF_B * p / (100 * t),
+    })
+}

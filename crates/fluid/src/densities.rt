@@ -1,0 +1,58 @@
+// The density of a root (document 01, "Densities").
+ghost use mathlib.Core.Path.{_≡_};
+ghost use Prim.Native.Nat.{_+_, _*_, _/_};
+ghost use Rattle.fluid.specs.Promise.{Weighs};
+ghost use Rattle.fluid.specs.Inside.{PartsFit};
+use crate::choice::Fluid;
+use crate::choice::figures_at;
+use crate::coefficients::HIGHEST_PASCALS;
+use crate::coefficients::HOTTEST_MILLIKELVIN;
+
+// Half of the gas constant 8314.
+const HALF_GAS_CONSTANT: u64 = 4_157;
+
+const LARGEST_ROOT: u64 = 1_100_000;
+
+const THOUSAND: u64 = 1_000;
+
+pub enum Density {
+    GramsPerCubicMetre(u64),
+    OutOfBounds,
+}
+
+// The exact quotient of x times c and y more by m, rounded down once, where the product itself would
+// pass 64 bits: what x leaves over m is carried on.
+pub(crate) fn quotient_in_parts(x: u64, c: u64, y: u64, m: u64) -> u64
+    requires { ⌜ PartsFit x c y m ⌝ }
+    ensures { λ r. ⌜ r ≡ (x * c + y) / m ⌝ }
+{
+    x / m * c + (x % m * c + y) / m
+}
+
+pub fn density_of(fluid: Fluid, millikelvin: u64, pascals: u64, root: u64) -> Density
+    ensures { λ r. ⌜ Weighs fluid millikelvin pascals root r ⌝ }
+{
+    if millikelvin == 0 {
+        return Density::OutOfBounds;
+    }
+    if HOTTEST_MILLIKELVIN < millikelvin {
+        return Density::OutOfBounds;
+    }
+    if HIGHEST_PASCALS < pascals {
+        return Density::OutOfBounds;
+    }
+    if root == 0 {
+        return Density::OutOfBounds;
+    }
+    if LARGEST_ROOT < root {
+        return Density::OutOfBounds;
+    }
+    let figures = figures_at(fluid, millikelvin);
+    let factor = figures.density_factor;
+    Density::GramsPerCubicMetre(quotient_in_parts(
+        factor * (pascals / THOUSAND),
+        THOUSAND,
+        factor * (pascals % THOUSAND),
+        HALF_GAS_CONSTANT * root * millikelvin,
+    ))
+}

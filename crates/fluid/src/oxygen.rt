@@ -1,0 +1,33 @@
+// Oxygen: its constants (document 01, "Constants that belong to each fluid"; TM-564, Table 1).
+ghost use mathlib.Core.Path.{_≡_};
+ghost use Prim.Native.Nat.{ℕ};
+ghost use Rattle.fluid.specs.Inside.{figuresOf};
+use crate::choice::Figures;
+use crate::choice::Fluid;
+
+pub struct Oxygen {}
+
+impl Oxygen {
+    // 31.9988, in hundred-thousandths.
+    pub const MOLAR_MASS: u64 = 3_199_880;
+
+    pub const COLDEST_MILLIKELVIN: u64 = 56_000;
+
+    pub const CRITICAL_MILLIKELVIN: u64 = 154_576;
+
+    pub const CRITICAL_PASCALS: u64 = 5_042_000;
+
+    // 159994 x 10,000,000, made as hydrogen's is.
+    pub const DENSITY_FACTOR: u64 = Self::MOLAR_MASS / 2 * 1_000_000;
+
+    pub(crate) fn figures() -> Figures
+        ensures { λ r. ⌜ ((millikelvin : ℕ) → r ≡ figuresOf Fluid.Oxygen millikelvin) ⌝ }
+    {
+        Figures {
+            coldest_millikelvin: Self::COLDEST_MILLIKELVIN,
+            critical_millikelvin: Self::CRITICAL_MILLIKELVIN,
+            critical_pascals: Self::CRITICAL_PASCALS,
+            density_factor: Self::DENSITY_FACTOR,
+        }
+    }
+}

@@ -1,0 +1,37 @@
+-- Document 01, "Replies": the paper's number of each reply, and its five figures, which are zeros where the state is refused.
+use Prim.Native.Nat.{ℕ}
+use Rattle.cubic.specs.Cubic.{Kind, ONE, SPLIT}
+use Rattle.state.specs.declared.replies.Reply.{Reply}
+use Rattle.state.specs.declared.replies.Reply.the-variants.{One, Split, NoSuchFluid, TemperatureOutOfRange, PressureOutOfRange, NoSuchSlot}
+use Rattle.state.specs.declared.replies.Figures.{Figures}
+
+-- a refused state has no kind
+abbrev pub none : ℕ
+none = 0
+
+abbrev pub numberOfKind : Kind → ℕ
+numberOfKind ONE = 1
+numberOfKind SPLIT = 2
+
+abbrev pub answeredWith : Kind → (gas dense gas-density dense-density : ℕ) → Figures
+answeredWith kind gas dense gas-density dense-density =
+    record {
+      number = 0;
+      kind = numberOfKind kind;
+      «gas_root» = gas;
+      «dense_root» = dense;
+      «gas_density» = gas-density;
+      «dense_density» = dense-density;
+    }
+
+abbrev pub refusedWith : (number : ℕ) → Figures
+refusedWith number =
+    record { number = number; kind = none; «gas_root» = 0; «dense_root» = 0; «gas_density» = 0; «dense_density» = 0 }
+
+abbrev pub figuresOf : Reply → Figures
+figuresOf (One root density) = answeredWith ONE root root density density
+figuresOf (Split gas dense gas-density dense-density) = answeredWith SPLIT gas dense gas-density dense-density
+figuresOf NoSuchFluid = refusedWith 1
+figuresOf TemperatureOutOfRange = refusedWith 2
+figuresOf PressureOutOfRange = refusedWith 3
+figuresOf NoSuchSlot = refusedWith 4

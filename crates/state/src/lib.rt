@@ -1,0 +1,58 @@
+// The reply to a state (document 01): a fluid's number, a temperature in millikelvin and a pressure in
+// pascals, each any 64-bit number at all, with a book of starting points or without one.
+mod answers;
+mod checks;
+mod replies;
+
+ghost use lib.ListN.{length};
+ghost use Rattle.state.specs.Book.{Called};
+ghost use Rattle.state.specs.Replies.{Replies};
+use crate::answers::answer;
+use crate::answers::both_roots;
+use crate::checks::Checked;
+use crate::checks::check;
+pub use replies::Figures;
+pub use replies::Reply;
+
+const SLOTS: usize = 64;
+
+// Without a book: the search begins with no starting point.
+pub fn ask(fluid: u64, millikelvin: u64, pascals: u64) -> Reply
+    ensures { λ r. ⌜ Replies fluid millikelvin pascals r ⌝ }
+{
+    match check(fluid, millikelvin, pascals) {
+        Checked::Refused(refusal) => refusal,
+        Checked::Accepted { fluid, reduced } => {
+            let roots = both_roots(reduced.a, reduced.b, 0);
+            answer(fluid, millikelvin, pascals, roots)
+        }
+    }
+}
+
+// With a book: the search may begin at what the slot holds, and leaves the gas root there. The number in
+// the slot is a place to look first and changes no reply.
+pub fn ask_with_book(
+    fluid: u64,
+    millikelvin: u64,
+    pascals: u64,
+    slot: u64,
+    book: &mut [u32],
+) -> Reply
+    ensures { λ r. ⌜ Called fluid millikelvin pascals slot (now (book .entry)) r (now (book .exit)) ⌝ }
+{
+    match check(fluid, millikelvin, pascals) {
+        Checked::Refused(refusal) => refusal,
+        Checked::Accepted { fluid, reduced } => {
+            if book.len() != SLOTS {
+                return Reply::NoSuchSlot;
+            }
+            if SLOTS as u64 <= slot {
+                return Reply::NoSuchSlot;
+            }
+            let at = slot as usize;
+            let roots = both_roots(reduced.a, reduced.b, book[at] as u64);
+            book[at] = roots.gas as u32;
+            answer(fluid, millikelvin, pascals, roots)
+        }
+    }
+}

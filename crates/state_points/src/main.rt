@@ -1,0 +1,149 @@
+// Prints what `state::ask_with_book` answers to some thousands of states, every call on one book that
+// begins full of misleading numbers. A line is a question, "fluid millikelvin pascals slot", and then the
+// number and the five figures of the reply. The first line is the book before, the last two are the
+// book after and how many states there were. The gate holds the output to what a second implementation
+// answers, which never looks at a book (host/README.md says how to make that again).
+mod tables;
+
+use crate::tables::LARGEST;
+use crate::tables::MISLEADING;
+use crate::tables::PRESSURES;
+use crate::tables::TEMPERATURES;
+use libc::STDOUT_FILENO;
+use state::Figures;
+ghost use mathlib.Core.Path.{_≡_};
+ghost use Prim.Native.Nat.{_*_, _<_};
+
+const SLOTS: u64 = 64;
+
+fn wide(number: u32) -> u64 {
+    number as u64
+}
+
+fn print_after_space(number: u64) {
+    io::write_all(STDOUT_FILENO, b" ");
+    io::print_decimal(STDOUT_FILENO, number);
+}
+
+fn print_book(book: &[u32]) {
+    io::write_all(STDOUT_FILENO, b"book");
+    for slot in 0..book.len() {
+        print_after_space(wide(book[slot]));
+    }
+    io::write_all(STDOUT_FILENO, b"\n");
+}
+
+fn print_figures(figures: Figures) {
+    print_after_space(figures.number);
+    print_after_space(figures.kind);
+    print_after_space(figures.gas_root);
+    print_after_space(figures.dense_root);
+    print_after_space(figures.gas_density);
+    print_after_space(figures.dense_density);
+    io::write_all(STDOUT_FILENO, b"\n");
+}
+
+fn print_state(fluid: u64, millikelvin: u64, pascals: u64, slot: u64, book: &mut [u32]) {
+    io::print_decimal(STDOUT_FILENO, fluid);
+    print_after_space(millikelvin);
+    print_after_space(pascals);
+    print_after_space(slot);
+    let reply = state::ask_with_book(fluid, millikelvin, pascals, slot, book);
+    print_figures(reply.figures());
+}
+
+// Every pair of the two tables, for one fluid and then the other in the same slot: where both are
+// answered, each finds the other's root there. Answers how many states it asked, as `print_refusals` and
+// `print_walk` do.
+fn print_pairs(book: &mut [u32]) -> u64
+    ensures { λ r. ⌜ r ≡ 2 * 58 * 42 ⌝ }
+{
+    let mut asked = 0;
+    for pair in 0..TEMPERATURES.len() * PRESSURES.len() {
+        let millikelvin = TEMPERATURES[pair / PRESSURES.len()];
+        let pascals = PRESSURES[pair % PRESSURES.len()];
+        let slot = pair as u64 % SLOTS;
+        print_state(0, millikelvin, pascals, slot, book);
+        print_state(1, millikelvin, pascals, slot, book);
+        asked += 2;
+    }
+    asked
+}
+
+// Each refusal where every later one applies too.
+fn print_refusals(book: &mut [u32]) -> u64
+    ensures { λ r. ⌜ r ≡ 6 ⌝ }
+{
+    print_state(2, 0, 0, SLOTS, book);
+    print_state(LARGEST, LARGEST, LARGEST, LARGEST, book);
+    print_state(1, 0, 0, SLOTS, book);
+    print_state(1, 300_000, 0, SLOTS, book);
+    print_state(1, 300_000, 1_000_000, SLOTS, book);
+    print_state(0, 300_000, 1_000_000, LARGEST, book);
+    6
+}
+
+// Park and Miller's generator: the same numbers in every run, each below the prime 2^31 - 1.
+fn next(random: u64) -> u64
+    requires { ⌜ random < 2147483647 ⌝ }
+    ensures { λ r. ⌜ r < 2147483647 ⌝ }
+{
+    random * 48_271 % 2_147_483_647
+}
+
+// Now and then a number that no fluid has.
+fn fluid_from(random: u64) -> u64 {
+    let choice = random % 16;
+    if choice < 8 {
+        return 0;
+    }
+    if choice < 15 {
+        return 1;
+    }
+    2 + random % 1_000
+}
+
+// A state at random: a temperature and a pressure from a little above their ranges downwards, small ones as
+// often as large ones, and now and then a slot past the last. Answers the random number to go on from.
+fn print_random_state(random: u64, book: &mut [u32]) -> u64
+    requires { ⌜ random < 2147483647 ⌝ }
+    ensures { λ r. ⌜ r < 2147483647 ⌝ }
+{
+    let first = next(random);
+    let second = next(first);
+    let third = next(second);
+    let fourth = next(third);
+    let fifth = next(fourth);
+    let sixth = next(fifth);
+    print_state(
+        fluid_from(first),
+        (second % 1_048_576) >> (third % 7),
+        (fourth % 67_108_864) >> (fifth % 14),
+        sixth % (SLOTS + 2),
+        book,
+    );
+    sixth
+}
+
+fn print_walk(book: &mut [u32]) -> u64
+    ensures { λ r. ⌜ r ≡ 1000 ⌝ }
+{
+    let mut random = 1;
+    let mut asked = 0;
+    while asked < 1_000 {
+        random = print_random_state(random, book);
+        asked += 1;
+    }
+    asked
+}
+
+fn main() {
+    let mut book = MISLEADING;
+    print_book(&book);
+    let pairs = print_pairs(&mut book);
+    let refusals = print_refusals(&mut book);
+    let walk = print_walk(&mut book);
+    print_book(&book);
+    io::print_decimal(STDOUT_FILENO, pairs + refusals + walk);
+    io::write_all(STDOUT_FILENO, b" states\n");
+}

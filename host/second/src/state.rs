@@ -1,0 +1,311 @@
+//! Document 01, "Replies" to "The book of starting points": the reply to a state, as the paper writes
+//! it. Every product has 128 bits, so that none needs a thought.
+
+use crate::cubic::crossings;
+
+pub const HYDROGEN: u64 = 0;
+pub const OXYGEN: u64 = 1;
+
+/// The two kinds. A refused state has none, which is 0.
+pub const ONE: u64 = 1;
+pub const SPLIT: u64 = 2;
+
+/// How many numbers a book has.
+pub const BOOK: usize = 64;
+
+/// A reply's number, kind, roots and densities: all but the number are zeros where it is refused.
+#[derive(Clone, Copy, Debug, Default, PartialEq, Eq)]
+pub struct Reply {
+    pub number: u64,
+    pub kind: u64,
+    pub gas_root: u64,
+    pub dense_root: u64,
+    pub gas_density: u64,
+    pub dense_density: u64,
+}
+
+/// The critical temperature and pressure, Tc and Pc.
+#[derive(Debug, PartialEq, Eq)]
+pub struct Critical {
+    pub millikelvin: u64,
+    pub pascals: u64,
+}
+
+/// What leads from a state to its cubic, and the cubic's a and b.
+#[derive(Debug, PartialEq, Eq)]
+pub struct Reduced {
+    pub t: u64,
+    pub p: u64,
+    pub s: u64,
+    pub a: u64,
+    pub b: u64,
+}
+
+/// Oxygen's critical constants are constants; hydrogen's depend on the temperature.
+pub fn critical(fluid: u64, millikelvin: u64) -> Critical {
+    if fluid == OXYGEN {
+        return Critical {
+            millikelvin: 154_576,
+            pascals: 5_042_000,
+        };
+    }
+    let m = 201_594 * u128::from(millikelvin);
+    Critical {
+        millikelvin: narrow(43_600 * m / (m + 2_180_000_000)),
+        pascals: narrow(2_046_765 * m / (m + 4_420_000_000)),
+    }
+}
+
+/// t, p, s, a and b of a state whose critical constants are these.
+pub fn reduced(critical: &Critical, millikelvin: u64, pascals: u64) -> Reduced {
+    let t = 10_000 * u128::from(millikelvin) / u128::from(critical.millikelvin);
+    let p = 1_000_000 * u128::from(pascals) / u128::from(critical.pascals);
+    let s = largest_with_square_up_to(10_000 * t);
+    Reduced {
+        t: narrow(t),
+        p: narrow(p),
+        s: narrow(s),
+        a: narrow(42_748_000_000 * p / (t * t * s)),
+        b: narrow(8664 * p / (100 * t)),
+    }
+}
+
+/// Found by counting up, which is its definition.
+fn largest_with_square_up_to(limit: u128) -> u128 {
+    let mut s = 0;
+    while (s + 1) * (s + 1) <= limit {
+        s += 1;
+    }
+    s
+}
+
+/// Grams per cubic metre at this root.
+pub fn density(fluid: u64, millikelvin: u64, pascals: u64, root: u64) -> u64 {
+    let [millikelvin, pascals, root] = [millikelvin, pascals, root].map(u128::from);
+    let top = if fluid == OXYGEN {
+        159_994 * 10_000_000 * pascals
+    } else {
+        100_797 * 1_000_000 * pascals
+    };
+    narrow(top / (4157 * root * millikelvin))
+}
+
+/// The reply to a call without a book.
+pub fn reply(fluid: u64, millikelvin: u64, pascals: u64) -> Reply {
+    let coldest = match fluid {
+        HYDROGEN => 14_000,
+        OXYGEN => 56_000,
+        _ => return refused(1),
+    };
+    if !(coldest..=1_000_000).contains(&millikelvin) {
+        return refused(2);
+    }
+    if !(10_000..=50_000_000).contains(&pascals) {
+        return refused(3);
+    }
+    let Reduced { a, b, .. } = reduced(&critical(fluid, millikelvin), millikelvin, pascals);
+    let found = crossings(a, b);
+    let dense_root = *found.first().expect("a crossing");
+    let gas_root = *found.last().expect("a crossing");
+    Reply {
+        number: 0,
+        kind: if gas_root == dense_root { ONE } else { SPLIT },
+        gas_root,
+        dense_root,
+        gas_density: density(fluid, millikelvin, pascals, gas_root),
+        dense_density: density(fluid, millikelvin, pascals, dense_root),
+    }
+}
+
+/// The reply to a call with a book, which also writes there. Refusal 4 comes after the others, and
+/// nothing is read from the book.
+pub fn reply_with_book(
+    fluid: u64,
+    millikelvin: u64,
+    pascals: u64,
+    slot: u64,
+    book: &mut [u32],
+) -> Reply {
+    let without = reply(fluid, millikelvin, pascals);
+    if without.number != 0 {
+        return without;
+    }
+    if book.len() != BOOK || slot >= BOOK as u64 {
+        return refused(4);
+    }
+    book[slot as usize] = u32::try_from(without.gas_root).expect("a root of 32 bits");
+    without
+}
+
+fn refused(number: u64) -> Reply {
+    Reply {
+        number,
+        ..Reply::default()
+    }
+}
+
+/// What must fit into 64 bits, and is looked at rather than cut off.
+fn narrow(wide: u128) -> u64 {
+    u64::try_from(wide).expect("a number of 64 bits")
+}
+
+#[cfg(test)]
+mod tests {
+    use super::*;
+    use crate::cubic::{g, N};
+
+    fn one(root: u64, density: u64) -> Reply {
+        Reply {
+            number: 0,
+            kind: ONE,
+            gas_root: root,
+            dense_root: root,
+            gas_density: density,
+            dense_density: density,
+        }
+    }
+
+    fn reduced_state(fluid: u64, millikelvin: u64, pascals: u64) -> Reduced {
+        reduced(&critical(fluid, millikelvin), millikelvin, pascals)
+    }
+
+    /// Eight times g half a step above z: negative where the root above z is nearer to z + 1.
+    fn eight_g_half_above(a: u64, b: u64, z: u64) -> i128 {
+        let [n, a, b, w] = [N, a, b, 2 * z + 1].map(i128::from);
+        w * w * w - 2 * n * w * w + 4 * (n * a - b * b - n * b) * w - 8 * n * a * b
+    }
+
+    // Document 01, "Points worked through".
+
+    #[test]
+    fn oxygen_at_300_kelvin() {
+        let expected = Reduced {
+            t: 19_407,
+            p: 198_333,
+            s: 13_930,
+            a: 1616,
+            b: 885,
+        };
+        assert_eq!(reduced_state(OXYGEN, 300_000, 1_000_000), expected);
+        assert_eq!(reply(OXYGEN, 300_000, 1_000_000), one(99_286, 12_921));
+    }
+
+    #[test]
+    fn oxygen_at_120_kelvin() {
+        let expected = Reduced {
+            t: 7763,
+            p: 99_166,
+            s: 8810,
+            a: 7984,
+            b: 1106,
+        };
+        assert_eq!(reduced_state(OXYGEN, 120_000, 500_000), expected);
+        assert_eq!(g(7984, 1106, 1699), -292_242_865);
+        assert_eq!(g(7984, 1106, 1700), 63_098_800);
+        assert_eq!(g(7984, 1106, 92_696), -84_314_720);
+        let expected = Reply {
+            number: 0,
+            kind: SPLIT,
+            gas_root: 92_696,
+            dense_root: 1699,
+            gas_density: 17_300,
+            dense_density: 943_884,
+        };
+        assert_eq!(reply(OXYGEN, 120_000, 500_000), expected);
+    }
+
+    #[test]
+    fn hydrogen_at_300_kelvin() {
+        let expected = Critical {
+            millikelvin: 42_083,
+            pascals: 1_907_366,
+        };
+        assert_eq!(critical(HYDROGEN, 300_000), expected);
+        let expected = Reduced {
+            t: 71_287,
+            p: 524_283,
+            s: 26_699,
+            a: 165,
+            b: 637,
+        };
+        assert_eq!(reduced_state(HYDROGEN, 300_000, 1_000_000), expected);
+        assert_eq!(reply(HYDROGEN, 300_000, 1_000_000), one(100_474, 804));
+    }
+
+    #[test]
+    fn hydrogen_at_1000_kelvin() {
+        let Reduced { a, b, .. } = reduced_state(HYDROGEN, 1_000_000, 10_000);
+        assert_eq!((a, b), (0, 1));
+        assert_eq!(reply(HYDROGEN, 1_000_000, 10_000), one(100_001, 2));
+    }
+
+    #[test]
+    fn ends_of_the_ranges() {
+        assert_eq!(reply(OXYGEN, 55_999, 500_000), refused(2));
+        assert_eq!(reply(OXYGEN, 56_000, 9_999), refused(3));
+        assert_eq!(reply(OXYGEN, 56_000, 10_000).number, 0);
+        assert_eq!(reply(OXYGEN, 56_000, 50_000_000).number, 0);
+        assert_eq!(reply(OXYGEN, 56_000, 50_000_001), refused(3));
+        assert_eq!(reply(OXYGEN, 1_000_000, 10_000).number, 0);
+        assert_eq!(reply(OXYGEN, 1_000_001, 10_000), refused(2));
+        assert_eq!(reply(HYDROGEN, 13_999, 10_000), refused(2));
+        assert_eq!(reply(HYDROGEN, 14_000, 10_000).number, 0);
+        assert_eq!(reply(2, 0, 0), refused(1));
+    }
+
+    /// The first refusal that applies is the one given, and none writes.
+    #[test]
+    fn order_of_the_refusals() {
+        let mut book = [7; BOOK];
+        let mut call = |fluid, millikelvin, pascals| {
+            reply_with_book(fluid, millikelvin, pascals, 64, &mut book)
+        };
+        assert_eq!(call(2, 0, 0), refused(1));
+        assert_eq!(call(OXYGEN, 0, 0), refused(2));
+        assert_eq!(call(OXYGEN, 300_000, 0), refused(3));
+        assert_eq!(call(OXYGEN, 300_000, 1_000_000), refused(4));
+        assert_eq!(book, [7; BOOK]);
+    }
+
+    #[test]
+    fn slots_of_the_book() {
+        let call = |slot, book: &mut [u32]| reply_with_book(OXYGEN, 300_000, 1_000_000, slot, book);
+        let mut book = [7; BOOK];
+        assert_eq!(call(64, &mut book), refused(4));
+        assert_eq!(call(u64::MAX, &mut book), refused(4));
+        assert_eq!(call(63, &mut book), one(99_286, 12_921));
+        assert_eq!((&book[..63], book[63]), (&[7; 63][..], 99_286));
+        assert_eq!(call(0, &mut [7; 63]), refused(4));
+        assert_eq!(call(0, &mut [7; 65]), refused(4));
+    }
+
+    // Document 01, "Errors that look right".
+
+    /// Table 1's critical temperature of hydrogen is not the cubic's.
+    #[test]
+    fn hydrogen_with_a_fixed_critical_temperature() {
+        let wrong = Critical {
+            millikelvin: 32_976,
+            ..critical(HYDROGEN, 300_000)
+        };
+        assert_eq!(reduced(&wrong, 300_000, 1_000_000).b, 499);
+        assert_eq!(reduced_state(HYDROGEN, 300_000, 1_000_000).b, 637);
+    }
+
+    /// The nearest whole number is the root at 92696, and not at 100474.
+    #[test]
+    fn nearest_whole_number() {
+        assert!(eight_g_half_above(7984, 1106, 92_696) > 0);
+        assert!(eight_g_half_above(165, 637, 100_474) < 0);
+        assert_eq!(reply(HYDROGEN, 300_000, 1_000_000).gas_root, 100_474);
+    }
+
+    /// g is 0 at the root N + b where a is 0, and 0 is not positive.
+    #[test]
+    fn root_at_which_g_is_zero() {
+        for b in [1, 2, 885, 8664] {
+            assert_eq!(g(0, b, N + b), 0);
+            assert_eq!(crossings(0, b), [N + b]);
+        }
+    }
+}
