@@ -37,17 +37,18 @@ pub fn reduce(fluid: Fluid, millikelvin: u64, pascals: u64) -> Reduction
     ensures { λ r. ⌜ ReducesTo fluid millikelvin pascals r ⌝ }
 {
     if HOTTEST_MILLIKELVIN < millikelvin {
-        return Reduction::TemperatureOutOfRange;
+        return Reduction::TemperatureOutOfRange; // too hot
     }
     let figures = figures_at(fluid, millikelvin);
-    if millikelvin < figures.coldest_millikelvin {
-        return Reduction::TemperatureOutOfRange;
+    let coldest = figures.coldest_millikelvin;
+    if millikelvin < coldest {
+        return Reduction::TemperatureOutOfRange; // too cold
     }
     if pascals < LOWEST_PASCALS {
-        return Reduction::PressureOutOfRange;
+        return Reduction::PressureOutOfRange; // too low
     }
     if HIGHEST_PASCALS < pascals {
-        return Reduction::PressureOutOfRange;
+        return Reduction::PressureOutOfRange; // too high
     }
     let t = 10_000 * millikelvin / figures.critical_millikelvin;
     let p = 1_000_000 * pascals / figures.critical_pascals;

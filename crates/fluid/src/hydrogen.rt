@@ -17,14 +17,14 @@ impl Hydrogen {
     pub const COLDEST_MILLIKELVIN: u64 = 14_000;
 
     // What the critical constants near in hot gas: 43.6 K and 20.2 atm.
-    pub const HOT_CRITICAL_MILLIKELVIN: u64 = 43_600;
+    pub const CRITICAL_MILLIKELVIN: u64 = 43_600;
 
-    pub const HOT_CRITICAL_PASCALS: u64 = 2_046_765;
+    pub const CRITICAL_PASCALS: u64 = 2_046_765;
 
     // What lowers them in cold gas: 21.8 K and 44.2 K, in the unit of molar mass times millikelvin.
-    pub const CRITICAL_MILLIKELVIN_SHIFT: u64 = 2_180_000_000;
+    pub const MILLIKELVIN_SHIFT: u64 = 2_180_000_000;
 
-    pub const CRITICAL_PASCALS_SHIFT: u64 = 4_420_000_000;
+    pub const PASCALS_SHIFT: u64 = 4_420_000_000;
 
     // 100797 x 1,000,000: half the molar mass, as 4157 is half the gas constant 8314, times the grid's
     // 100,000 and the millikelvin's and the gram's thousands, over the molar mass's unit.
@@ -45,8 +45,8 @@ impl Hydrogen {
         ensures { λ r. ⌜ r ≡ criticalMillikelvin Fluid.Hydrogen millikelvin ⌝ }
     {
         Self::lowered(
-            Self::HOT_CRITICAL_MILLIKELVIN,
-            Self::CRITICAL_MILLIKELVIN_SHIFT,
+            Self::CRITICAL_MILLIKELVIN,
+            Self::MILLIKELVIN_SHIFT,
             millikelvin,
         )
     }
@@ -56,11 +56,7 @@ impl Hydrogen {
         requires { ⌜ millikelvin ≤ hottest ⌝ }
         ensures { λ r. ⌜ r ≡ criticalPascals Fluid.Hydrogen millikelvin ⌝ }
     {
-        Self::lowered(
-            Self::HOT_CRITICAL_PASCALS,
-            Self::CRITICAL_PASCALS_SHIFT,
-            millikelvin,
-        )
+        Self::lowered(Self::CRITICAL_PASCALS, Self::PASCALS_SHIFT, millikelvin)
     }
 
     pub(crate) fn figures_at(millikelvin: u64) -> Figures

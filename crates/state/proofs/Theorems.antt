@@ -6,93 +6,56 @@ use mathlib.Core.List.{List, [], _∷_}
 use Prim.Native.Nat.{ℕ, _≤_}
 use lib.ListN.{length, replicate, length-set, length-replicate}
 use Rattle.cubic.specs.Cubic.{Crossing, GasRoot, DenseRoot}
-use Rattle.cubic.proofs.Theorems.{gas-root-unique, dense-root-unique, kind-determined}
 use Rattle.cubic.proofs.Theorems as cubic
 use Rattle.fluid.specs.declared.choice.Fluid.{Fluid}
 use Rattle.fluid.specs.declared.coefficients.Reduced.{Reduced}
 use Rattle.fluid.specs.Figures.{numberOf, Accepted}
 use Rattle.fluid.specs.Reduced.{Reduces}
-use Rattle.fluid.specs.Densities.{density}
 use Rattle.fluid.proofs.Theorems.{reduced-determined}
 use Rattle.state.specs.declared.replies.Reply.{Reply}
 use Rattle.state.specs.declared.replies.Reply.the-variants.{One, Split, NoSuchFluid, TemperatureOutOfRange, PressureOutOfRange, NoSuchSlot}
 use Rattle.state.specs.declared.replies.Figures.{Figures}
-use Rattle.state.specs.Figures.{figuresOf}
-use Rattle.state.specs.Replies.{OfFluid, Replies}
-use Rattle.state.specs.Book.{Placed, Misplaced, RepliesWithBook, bookAfter, Called, Asked, without-book, with-book}
-use Rattle.state.specs.Shared.{Call, Gets, Shared, Alone}
-use Rattle.state.proofs.Exactly.{replyWith, Answer, unknown-fluid, wrong-temperature, wrong-pressure, accepted-state, refuses-accepted}
+use Rattle.state.specs.Figures.{refusedWith, figuresOf}
+use Rattle.state.specs.Replies.{Replies}
+use Rattle.state.specs.Book.{bookAfter, Called, Asked, without-book, with-book}
+use Rattle.state.specs.Shared.{Call, Shared, Alone}
+use Rattle.state.proofs.Exactly.{Answer, accepted-state}
+use Rattle.state.proofs.Determined as determined
 
--- two answers to one state have the same figures
-answer-determined : {fluid : Fluid} {millikelvin pascals : ℕ} {r s : Reply} → Answer fluid millikelvin pascals r → Answer fluid millikelvin pascals s → r ≡ s
-answer-determined {fluid} {millikelvin} {pascals} {r} {s} p q =
-    let p′ = p .answered in
-    let q′ = q .answered in
-    let same-reduced : p′ .reduced ≡ q′ .reduced = reduced-determined fluid millikelvin pascals (p′ .reduced) (q′ .reduced) (p′ .reduces) (q′ .reduces) in
-    let same-gas : p .gas ≡ q .gas = gas-root-unique _ _ (rw same-reduced at (p′ .is-gas)) (q′ .is-gas) in
-    let same-dense : p .dense ≡ q .dense = dense-root-unique _ _ (rw same-reduced at (p′ .is-dense)) (q′ .is-dense) in
-    let same-kind : p .kind ≡ q .kind = kind-determined _ _ _ _ (rw (same-gas, same-dense) at (p′ .is-kind)) (q′ .is-kind) in
-    let same-gas-density : p .gas-density ≡ q .gas-density = p′ .is-gas-density ∙ ap (density fluid millikelvin pascals) same-gas ∙ sym (q′ .is-gas-density) in
-    let same-dense-density : p .dense-density ≡ q .dense-density = p′ .is-dense-density ∙ ap (density fluid millikelvin pascals) same-dense ∙ sym (q′ .is-dense-density) in
-    let same : replyWith (p .kind) (p .gas) (p .dense) (p .gas-density) (p .dense-density) ≡ replyWith (q .kind) (q .gas) (q .dense) (q .gas-density) (q .dense-density) = cc in
-    p .is-reply ∙ same ∙ sym (q .is-reply)
+-- Every accepted state is answered, and the two roots reported are all the crossings there are, whatever a book holds.
+module _ {fluid : Fluid} {millikelvin pascals : ℕ} {reduced : Reduced} {reply : Reply} (accepted : Accepted fluid millikelvin pascals) (reduces : Reduces fluid millikelvin pascals reduced) (asked : Asked (numberOf fluid) millikelvin pascals reply) where
+  without : Asked (numberOf fluid) millikelvin pascals reply → Replies (numberOf fluid) millikelvin pascals reply
+  without (without-book replies) = replies
+  without (with-book slot before after placed called) = determined.in-place _ _ _ placed reply (called .replies)
 
-module _ (number millikelvin pascals : ℕ) where
-  answer-fixes : (r s : Reply) → OfFluid number (λ fluid. Accepted fluid millikelvin pascals) → Replies number millikelvin pascals r → Replies number millikelvin pascals s → r ≡ s
-  answer-fixes r s state p q =
-      let view : (reply : Reply) → Replies number millikelvin pascals reply → Answer (state .fluid) millikelvin pascals reply = accepted-state millikelvin pascals (state .fluid) (state .is-number) (state .holds) in
-      answer-determined (view r p) (view s q)
+  answer : Answer fluid millikelvin pascals reply
+  answer = accepted-state millikelvin pascals fluid refl accepted reply (without asked)
 
-  -- two replies that keep what `ask` promises are equal
-  pub reply-determined : (r s : Reply) → Replies number millikelvin pascals r → Replies number millikelvin pascals s → r ≡ s
-  reply-determined r (One root grams) p q = answer-fixes r (One root grams) (record { fluid = q .fluid; is-number = q .is-number; holds = q .holds .accepted }) p q
-  reply-determined r (Split gas dense gas-density dense-density) p q = answer-fixes r (Split gas dense gas-density dense-density) (record { fluid = q .fluid; is-number = q .is-number; holds = q .holds .accepted }) p q
-  reply-determined r NoSuchFluid p q = unknown-fluid millikelvin pascals q r p
-  reply-determined r TemperatureOutOfRange p q = wrong-temperature millikelvin pascals (q .fluid) (q .is-number) (q .holds) r p
-  reply-determined r PressureOutOfRange p q = wrong-pressure millikelvin pascals (q .fluid) (q .is-number) (q .holds) r p
-  reply-determined r NoSuchSlot p q = absurd q
+  pub accepted-is-answered : figuresOf reply .number ≡ 0
+  accepted-is-answered = ap (λ (f : Figures). f .number) (answer .is-figures)
 
-  -- where there is such a slot the book changes nothing
-  in-place : {slot length : ℕ} → Placed slot length → (reply : Reply) → RepliesWithBook number millikelvin pascals slot length reply → Replies number millikelvin pascals reply
-  in-place placed (One root grams) p = p .replies
-  in-place placed (Split gas dense gas-density dense-density) p = p .replies
-  in-place placed NoSuchFluid p = p
-  in-place placed TemperatureOutOfRange p = p
-  in-place placed PressureOutOfRange p = p
-  in-place placed NoSuchSlot p = absurd (p .nowhere placed)
+  same-reduced : answer .answered .reduced ≡ reduced
+  same-reduced = reduced-determined fluid millikelvin pascals (answer .answered .reduced) reduced (answer .answered .reduces) reduces
 
-  module _ (slot length : ℕ) where
-    -- where the state is not accepted there is no 4
-    before-slot : (r s : Reply) → (OfFluid number (λ fluid. Accepted fluid millikelvin pascals) → ⊥) → RepliesWithBook number millikelvin pascals slot length r → Replies number millikelvin pascals s → r ≡ s
-    before-slot (One root grams) s refused p q = reply-determined (One root grams) s (p .replies) q
-    before-slot (Split gas dense gas-density dense-density) s refused p q = reply-determined (Split gas dense gas-density dense-density) s (p .replies) q
-    before-slot NoSuchFluid s refused p q = reply-determined NoSuchFluid s p q
-    before-slot TemperatureOutOfRange s refused p q = reply-determined TemperatureOutOfRange s p q
-    before-slot PressureOutOfRange s refused p q = reply-determined PressureOutOfRange s p q
-    before-slot NoSuchSlot s refused p q = absurd (refused (p .accepted))
+  pub gas-root-is-reported : GasRoot (reduced .a) (reduced .b) (figuresOf reply .«gas_root»)
+  gas-root-is-reported = rw (answer .is-figures) (rw same-reduced at (answer .answered .is-gas))
 
-    -- where it is, and there is no such slot, there is nothing else
-    no-slot : (r : Reply) → Misplaced number millikelvin pascals slot length → RepliesWithBook number millikelvin pascals slot length r → r ≡ NoSuchSlot
-    no-slot (One root grams) m p = absurd (m .nowhere (p .placed))
-    no-slot (Split gas dense gas-density dense-density) m p = absurd (m .nowhere (p .placed))
-    no-slot NoSuchFluid m p = absurd (refuses-accepted number millikelvin pascals NoSuchFluid p (m .accepted))
-    no-slot TemperatureOutOfRange m p = absurd (refuses-accepted number millikelvin pascals TemperatureOutOfRange p (m .accepted))
-    no-slot PressureOutOfRange m p = absurd (refuses-accepted number millikelvin pascals PressureOutOfRange p (m .accepted))
-    no-slot NoSuchSlot m p = refl
+  pub dense-root-is-reported : DenseRoot (reduced .a) (reduced .b) (figuresOf reply .«dense_root»)
+  dense-root-is-reported = rw (answer .is-figures) (rw same-reduced at (answer .answered .is-dense))
 
-    book-reply-determined : (r s : Reply) → RepliesWithBook number millikelvin pascals slot length r → RepliesWithBook number millikelvin pascals slot length s → r ≡ s
-    book-reply-determined r (One root grams) p q = reply-determined r (One root grams) (in-place (q .placed) r p) (q .replies)
-    book-reply-determined r (Split gas dense gas-density dense-density) p q =
-        reply-determined r (Split gas dense gas-density dense-density) (in-place (q .placed) r p) (q .replies)
-    book-reply-determined r NoSuchFluid p q = before-slot r NoSuchFluid (refuses-accepted number millikelvin pascals NoSuchFluid q) p q
-    book-reply-determined r TemperatureOutOfRange p q = before-slot r TemperatureOutOfRange (refuses-accepted number millikelvin pascals TemperatureOutOfRange q) p q
-    book-reply-determined r PressureOutOfRange p q = before-slot r PressureOutOfRange (refuses-accepted number millikelvin pascals PressureOutOfRange q) p q
-    book-reply-determined r NoSuchSlot p q = no-slot r q p
+  pub every-crossing-is-reported : (z : ℕ) → Crossing (reduced .a) (reduced .b) z → (z ≡ figuresOf reply .«gas_root») ⊎ (z ≡ figuresOf reply .«dense_root»)
+  every-crossing-is-reported = cubic.every-crossing-is-reported _ _ _ _ gas-root-is-reported dense-root-is-reported
+
+  pub gas-is-largest : (z : ℕ) → Crossing (reduced .a) (reduced .b) z → z ≤ figuresOf reply .«gas_root»
+  gas-is-largest = gas-root-is-reported .largest
+
+  pub dense-is-smallest : (z : ℕ) → Crossing (reduced .a) (reduced .b) z → figuresOf reply .«dense_root» ≤ z
+  dense-is-smallest = dense-root-is-reported .smallest
 
 -- A book's own contents change no reply: any two books of the same length give the same.
 module _ (number millikelvin pascals slot : ℕ) where
   pub book-never-matters : (book other : List ℕ) → length book ≡ length other → {r s : Reply} {after after′ : List ℕ} → Called number millikelvin pascals slot book r after → Called number millikelvin pascals slot other s after′ → r ≡ s
-  book-never-matters book other same {r} {s} p q = book-reply-determined number millikelvin pascals slot (length other) r s (rw same at (p .replies)) (q .replies)
+  book-never-matters book other same {r} {s} p q = determined.book-reply-determined number millikelvin pascals slot (length other) r s (rw same at (p .replies)) (q .replies)
 
   -- two calls that keep what `ask_with_book` promises give one reply and leave one book
   pub call-determined : (book : List ℕ) {r s : Reply} {after after′ : List ℕ} → Called number millikelvin pascals slot book r after → Called number millikelvin pascals slot book s after′ → (r ≡ s) × (after ≡ after′)
@@ -133,32 +96,19 @@ as-alone book own same (call ∷ calls) (reply ∷ replies) (other ∷ others) (
 pub shared-slot-as-alone : (book : List ℕ) (calls : List Call) (replies others : List Reply) → Shared book calls replies → Alone (replicate (length book) 0) calls others → replies ≡ others
 shared-slot-as-alone book = as-alone book (replicate (length book) 0) (sym (length-replicate (length book) 0))
 
--- Every accepted state is answered, and the two roots reported are all the crossings there are, whatever a book holds.
-module _ {fluid : Fluid} {millikelvin pascals : ℕ} {reduced : Reduced} {reply : Reply} (accepted : Accepted fluid millikelvin pascals) (reduces : Reduces fluid millikelvin pascals reduced) (asked : Asked (numberOf fluid) millikelvin pascals reply) where
-  without : Asked (numberOf fluid) millikelvin pascals reply → Replies (numberOf fluid) millikelvin pascals reply
-  without (without-book replies) = replies
-  without (with-book slot before after placed called) = in-place _ _ _ placed reply (called .replies)
+-- two replies that keep what `ask` promises are equal
+pub reply-determined : (number millikelvin pascals : ℕ) (r s : Reply) → Replies number millikelvin pascals r → Replies number millikelvin pascals s → r ≡ s
+reply-determined = determined.reply-determined
 
-  answer : Answer fluid millikelvin pascals reply
-  answer = accepted-state millikelvin pascals fluid refl accepted reply (without asked)
+-- two readings of a reply that keep what `figures` promises are equal
+pub figures-determined : (reply : Reply) {f g : Figures} → f ≡ figuresOf reply → g ≡ figuresOf reply → f ≡ g
+figures-determined reply p q = p ∙ sym q
 
-  pub accepted-is-answered : figuresOf reply .number ≡ 0
-  accepted-is-answered = ap (λ (f : Figures). f .number) (answer .is-figures)
-
-  same-reduced : answer .answered .reduced ≡ reduced
-  same-reduced = reduced-determined fluid millikelvin pascals (answer .answered .reduced) reduced (answer .answered .reduces) reduces
-
-  pub gas-root-is-reported : GasRoot (reduced .a) (reduced .b) (figuresOf reply .«gas_root»)
-  gas-root-is-reported = rw (answer .is-figures) (rw same-reduced at (answer .answered .is-gas))
-
-  pub dense-root-is-reported : DenseRoot (reduced .a) (reduced .b) (figuresOf reply .«dense_root»)
-  dense-root-is-reported = rw (answer .is-figures) (rw same-reduced at (answer .answered .is-dense))
-
-  pub every-crossing-is-reported : (z : ℕ) → Crossing (reduced .a) (reduced .b) z → (z ≡ figuresOf reply .«gas_root») ⊎ (z ≡ figuresOf reply .«dense_root»)
-  every-crossing-is-reported = cubic.every-crossing-is-reported _ _ _ _ gas-root-is-reported dense-root-is-reported
-
-  pub gas-is-largest : (z : ℕ) → Crossing (reduced .a) (reduced .b) z → z ≤ figuresOf reply .«gas_root»
-  gas-is-largest = gas-root-is-reported .largest
-
-  pub dense-is-smallest : (z : ℕ) → Crossing (reduced .a) (reduced .b) z → figuresOf reply .«dense_root» ≤ z
-  dense-is-smallest = dense-root-is-reported .smallest
+-- a refused reply carries its number and zeros
+pub refused-carries-zeros : (reply : Reply) → (figuresOf reply .number ≡ 0 → ⊥) → figuresOf reply ≡ refusedWith (figuresOf reply .number)
+refused-carries-zeros (One root grams) refused = absurd (refused refl)
+refused-carries-zeros (Split gas dense gas-density dense-density) refused = absurd (refused refl)
+refused-carries-zeros NoSuchFluid refused = refl
+refused-carries-zeros TemperatureOutOfRange refused = refl
+refused-carries-zeros PressureOutOfRange refused = refl
+refused-carries-zeros NoSuchSlot refused = refl

@@ -16,6 +16,8 @@ pub use replies::Reply;
 
 const SLOTS: usize = 64;
 
+const LAST_SLOT: u64 = 63;
+
 // Without a book: the search begins with no starting point.
 pub fn ask(fluid: u64, millikelvin: u64, pascals: u64) -> Reply
     ensures { λ r. ⌜ Replies fluid millikelvin pascals r ⌝ }
@@ -46,12 +48,14 @@ pub fn ask_with_book(
             if book.len() != SLOTS {
                 return Reply::NoSuchSlot;
             }
-            if SLOTS as u64 <= slot {
+            if LAST_SLOT < slot {
                 return Reply::NoSuchSlot;
             }
             let at = slot as usize;
-            let roots = both_roots(reduced.a, reduced.b, book[at] as u64);
-            book[at] = roots.gas as u32;
+            let start = book[at] as u64;
+            let roots = both_roots(reduced.a, reduced.b, start);
+            let gas = roots.gas;
+            book[at] = gas as u32;
             answer(fluid, millikelvin, pascals, roots)
         }
     }

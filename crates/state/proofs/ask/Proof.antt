@@ -1,6 +1,7 @@
 -- `state::ask` meets its contract: a refusal is passed on, and the two roots of an accepted state make its answer (`Answering.antt`).
 -- Assumes nothing.
 use mathlib.Core.Path.{_≡_}
+use native.Mathlib.Omega.{arith}
 use borrow.Author.Needs.{needs}
 use Rattle.fluid.specs.Figures.{numberOf}
 use Rattle.fluid.specs.Promise.{Reached}
@@ -22,7 +23,7 @@ enum-known-fluid : tie.Need-enum-known-fluid
 enum-known-fluid c = search needs
 
 both-roots-requires : tie.Need-both-roots-requires
-both-roots-requires c κs = within (checked (c .before) .1)
+both-roots-requires c κs = omega (arith, within (checked (c .before) .1))
 
 answer-requires : tie.Need-answer-requires
 answer-requires c κs = weighty (checked (c .before .before) .1) (c .both-roots .ensures)

@@ -1,9 +1,10 @@
 -- `state::ask_with_book` meets its contract: a refusal is passed on with the book as it was, and the two roots of an accepted state make its
 -- answer, the gas root left in the slot (`Answering.antt`). What the slot held is handed to the search and forgotten. Assumes nothing.
 use mathlib.Core.Path.{_≡_}
+use Prim.Native.Nat.{_<_}
 use native.Mathlib.Omega.{arith}
 use borrow.Author.Needs.{needs}
-use lib.ListN.{length}
+use lib.ListN.{length, getD}
 use Rattle.fluid.specs.Figures.{numberOf}
 use Rattle.fluid.specs.Promise.{Reached}
 use Rattle.state.specs.Book.{Placed}
@@ -18,6 +19,10 @@ checked c = rw (c .fluid .given .1) at (c .before .before .check .ensures)
 -- the call past its two tests of the slot
 placed : (c : tie.Else2) → let start = c .before .before .before .before .before .before .before .args in Placed (start .slot) (length (start .book .now))
 placed c = omega arith
+
+-- what the slot holds is a number of 32 bits
+holds-start : (c : tie.After-slice-known2) → let start = c .before .before .before .before .before .before .before .before .args in getD (start .book .now) (start .slot) 0 < 4294967296
+holds-start c = omega (arith, c .slice-known2 .given (c .before .before .before .before .before .before .before .before .args .slot))
 
 check-requires : tie.Need-check-requires
 check-requires c κs = search needs
@@ -38,20 +43,22 @@ returns-2 c =
     let fluid = c .before .before .before in
     no-slot _ _ _ _ _ (checked fluid .0) (checked fluid .1 .accepted) (λ there. omega arith)
 
-mul-both-roots : tie.Need-mul-both-roots
-mul-both-roots c = search needs
+mul-start : tie.Need-mul-start
+mul-start c = search needs
 
-slice-read-both-roots : tie.Need-slice-read-both-roots
-slice-read-both-roots c = search needs
+slice-read-start : tie.Need-slice-read-start
+slice-read-start c = search needs
 
-cast-both-roots : tie.Need-cast-both-roots
-cast-both-roots c = omega (arith, c .slice-known2 .given (c .before .before .before .before .before .before .before .before .args .slot))
+cast-start : tie.Need-cast-start
+cast-start c = omega (arith, holds-start c)
 
 both-roots-requires : tie.Need-both-roots-requires
-both-roots-requires c κs = within (checked (c .before .before .before .before) .1)
+both-roots-requires c κs = omega (arith, within (checked (c .before .before .before .before) .1))
 
 cast-book : tie.Need-cast-book
-cast-book c = omega (arith, fits-slot (checked (c .before .before .before .before .before .before) .1) (c .before .both-roots .ensures))
+cast-book c =
+    let begun = c .before in
+    omega (arith, holds-start begun, fits-slot (checked (begun .before .before .before .before) .1) (c .both-roots .ensures))
 
 mul-book : tie.Need-mul-book
 mul-book c = search needs
@@ -60,7 +67,7 @@ slice-write-book : tie.Need-slice-write-book
 slice-write-book c = search needs
 
 answer-requires : tie.Need-answer-requires
-answer-requires c κs = weighty (checked (c .before .before .before .before .before .before) .1) (c .before .both-roots .ensures)
+answer-requires c κs = weighty (checked (c .before .before .before .before .before) .1) (c .both-roots .ensures)
 
 returns-3 : tie.Need-returns-3
 returns-3 c =
@@ -73,8 +80,8 @@ same-length c = search needs
 
 returns-4 : tie.Need-returns-4
 returns-4 c =
-    let fluid = c .before .before .before .before .before .before .before in
-    answered-in-slot (checked fluid .1) (c .before .before .both-roots .ensures) (checked fluid .0) _ _ (placed (c .before .before .before .before)) (c .answer .result) (c .answer .ensures)
+    let fluid = c .before .before .before .before .before .before in
+    answered-in-slot (checked fluid .1) (c .before .both-roots .ensures) (checked fluid .0) _ _ (placed (c .before .before .before)) (c .answer .result) (c .answer .ensures)
 
 pub ask-with-book-spec : {M : Type 1} → statement M
 ask-with-book-spec =
@@ -85,9 +92,9 @@ ask-with-book-spec =
     enum-known-fluid
     returns
     returns-2
-    mul-both-roots
-    slice-read-both-roots
-    cast-both-roots
+    mul-start
+    slice-read-start
+    cast-start
     both-roots-requires
     cast-book
     mul-book

@@ -13,30 +13,30 @@ is-coldest : (c : tie.After-figures-at) → c .figures-at .result .«coldest_mil
 is-coldest c = ap (λ (f : Figures). f .«coldest_millikelvin») (c .figures-at .ensures)
 
 -- the state past its four tests
-accepted : (c : tie.Else4) → let start = c .before .before .before .before .before .before .args in Accepted (start .fluid) (start .millikelvin) (start .pascals)
-accepted c = omega (arith, is-coldest (c .before .before .before .before))
+accepted : (c : tie.Else4) → let start = c .before .before .before .before .before .args in Accepted (start .fluid) (start .millikelvin) (start .pascals)
+accepted c = omega (arith, is-coldest (c .before .before .before))
 
 -- what is known of the critical constants, t and p of such a state, and of s too, once its root is found
-known : (c : tie.Else4) → let figures = c .before .before .before .before in let start = figures .before .before .args in let tc = figures .figures-at .result .«critical_millikelvin» in let pc = figures .figures-at .result .«critical_pascals» in Spanned tc pc (10000 * start .millikelvin / tc) (1000000 * start .pascals / pc)
-known c = rw (c .before .before .before .before .figures-at .ensures) (spanned _ _ _ (accepted c))
+known : (c : tie.Else4) → let figures = c .before .before .before in let start = figures .before .before .args in let tc = figures .figures-at .result .«critical_millikelvin» in let pc = figures .figures-at .result .«critical_pascals» in Spanned tc pc (10000 * start .millikelvin / tc) (1000000 * start .pascals / pc)
+known c = rw (c .before .before .before .figures-at .ensures) (spanned _ _ _ (accepted c))
 
-found : (c : tie.After-square-root) → let figures = c .before .before .before .before .before .before .before in let start = figures .before .before .args in Bounds (10000 * start .millikelvin / figures .figures-at .result .«critical_millikelvin») (1000000 * start .pascals / figures .figures-at .result .«critical_pascals») (c .square-root .result)
+found : (c : tie.After-square-root) → let figures = c .before .before .before .before .before .before in let start = figures .before .before .args in Bounds (10000 * start .millikelvin / figures .figures-at .result .«critical_millikelvin») (1000000 * start .pascals / figures .figures-at .result .«critical_pascals») (c .square-root .result)
 found c = bounds (known (c .before .before .before)) (c .square-root .ensures)
 
 returns : tie.Need-returns
-returns c range = omega arith
+returns c = omega arith
 
 figures-at-requires : tie.Need-figures-at-requires
 figures-at-requires c κs = omega arith
 
 returns-2 : tie.Need-returns-2
-returns-2 c range = omega (arith, is-coldest (c .before .before))
+returns-2 c = omega (arith, is-coldest (c .before))
 
 returns-3 : tie.Need-returns-3
-returns-3 c = record { temperature = omega (arith, is-coldest (c .before .before .before)); pressure = λ range. omega arith }
+returns-3 c = omega (arith, is-coldest (c .before .before))
 
 returns-4 : tie.Need-returns-4
-returns-4 c = record { temperature = omega (arith, is-coldest (c .before .before .before .before)); pressure = λ range. omega arith }
+returns-4 c = omega (arith, is-coldest (c .before .before .before))
 
 mul-t : tie.Need-mul-t
 mul-t c = omega arith
@@ -56,30 +56,30 @@ mul-square-root c = omega (arith, known (c .before .before))
 square-root-requires : tie.Need-square-root-requires
 square-root-requires c κs = omega (arith, known (c .before .before))
 
-mul-t9 : tie.Need-mul-t9
-mul-t9 c = omega (arith, found c)
-
 mul-t10 : tie.Need-mul-t10
 mul-t10 c = omega (arith, found c)
 
 mul-t11 : tie.Need-mul-t11
 mul-t11 c = omega (arith, found c)
 
-div-t12 : tie.Need-div-t12
-div-t12 c = omega (arith, found c)
+mul-t12 : tie.Need-mul-t12
+mul-t12 c = omega (arith, found c)
 
-mul-t13 : tie.Need-mul-t13
-mul-t13 c = omega (arith, found c)
+div-t13 : tie.Need-div-t13
+div-t13 c = omega (arith, found c)
 
 mul-t14 : tie.Need-mul-t14
 mul-t14 c = omega (arith, found c)
 
-div-t15 : tie.Need-div-t15
-div-t15 c = omega (arith, found c)
+mul-t15 : tie.Need-mul-t15
+mul-t15 c = omega (arith, found c)
+
+div-t16 : tie.Need-div-t16
+div-t16 c = omega (arith, found c)
 
 returns-5 : tie.Need-returns-5
 returns-5 c =
-    let figures = c .before .before .before .before .before .before .before in
+    let figures = c .before .before .before .before .before .before in
     let start = figures .before .before .args in
     record {
       accepted = accepted (c .before .before .before);
@@ -108,11 +108,11 @@ reduce-spec =
     div-p
     mul-square-root
     square-root-requires
-    mul-t9
     mul-t10
     mul-t11
-    div-t12
-    mul-t13
+    mul-t12
+    div-t13
     mul-t14
-    div-t15
+    mul-t15
+    div-t16
     returns-5)

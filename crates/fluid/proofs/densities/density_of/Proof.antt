@@ -18,19 +18,19 @@ known : (c : tie.After-figures-at) → let start = c .before .before .before .be
 known c = parts _ _ _ _ (rw (c .figures-at .ensures) (factor-fits (c .before .before .before .before .before .before .args .fluid))) (weighable (c .before))
 
 returns : tie.Need-returns
-returns c within = omega arith
+returns c = omega arith
 
 returns-2 : tie.Need-returns-2
-returns-2 c within = omega arith
+returns-2 c = omega arith
 
 returns-3 : tie.Need-returns-3
-returns-3 c within = omega arith
+returns-3 c = omega arith
 
 returns-4 : tie.Need-returns-4
-returns-4 c within = omega arith
+returns-4 c = omega arith
 
 returns-5 : tie.Need-returns-5
-returns-5 c within = omega arith
+returns-5 c = omega arith
 
 figures-at-requires : tie.Need-figures-at-requires
 figures-at-requires c κs = omega arith

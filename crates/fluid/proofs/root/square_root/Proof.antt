@@ -13,6 +13,10 @@ Inv-loop n root₀ root = (n < (root + 1) * (root + 1)) × (root ≤ 200000)
 abbrev μ-loop : tie.MeasureT-loop
 μ-loop n root₀ root = root
 
+-- a turn is made only from a guess whose square is above n
+above : (c : tie.In-loop Inv-loop μ-loop) → c .before .before .args .n < c .before .loop .root * c .before .loop .root
+above c = omega arith
+
 add-root : tie.Need-add-root Inv-loop μ-loop
 add-root c = omega arith
 
@@ -25,19 +29,17 @@ mul-loop c =
     omega (arith, mul-le-mul small small)
 
 div-root : tie.Need-div-root Inv-loop μ-loop
-div-root c = some-guess (c .loop-test .taken)
+div-root c = some-guess (above c)
 
 add-root-2 : tie.Need-add-root-2 Inv-loop μ-loop
 add-root-2 c = omega (arith, div-le-self (c .before .before .args .n) (c .before .loop .root))
 
 loop-less : tie.Need-loop-less Inv-loop μ-loop
-loop-less c = step-falls _ _ (c .loop-test .taken)
+loop-less c = step-falls _ _ (above c)
 
 loop-again : tie.Need-loop-again Inv-loop μ-loop
 loop-again c =
-    let n = c .before .before .args .n in
-    let guess = c .before .loop .root in
-    (step-stays-above n guess (some-guess (c .loop-test .taken)), omega (arith, step-falls n guess (c .loop-test .taken)))
+    (step-stays-above _ _ (some-guess (above c)), omega (arith, step-falls _ _ (above c)))
 
 returns : tie.Need-returns Inv-loop μ-loop
 returns c = square-root (omega arith) (omega arith)
