@@ -1,6 +1,5 @@
 -- Where t, p, s, a and b of an accepted state lie. Each fluid gives round ends for its t and p; the rest is the same for all: a quotient
 -- grows with what stands above its bar and falls with what stands below, so a and b are at most what the ends make them. Assumes nothing.
-use mathlib.Core.Path.{_≡_}
 use Prim.Native.Nat.{ℕ, _+_, _*_, _/_, _≤_, _<_}
 use native.Mathlib.Nat.{le-trans, mul-le-mul, mul-le-mul-left, mul-pos, div-mul-le-self, div-le-of-le-mul}
 use native.Mathlib.Omega.{arith}
@@ -20,6 +19,7 @@ pub record Ends (least-t least-s greatest-p : ℕ) : Type 0 where
   pub a-fits : 42748000000 * greatest-p / (least-t * least-t * least-s) ≤ 11500000
   pub b-fits : 8664 * greatest-p / (100 * least-t) ≤ 1000000
 
+-- what lies between such ends: the critical constants are not 0, and b is not either
 pub record Spans (least-t greatest-p tc pc t p : ℕ) : Type 0 where
   pub some-tc : 0 < tc
   pub some-pc : 0 < pc
@@ -61,6 +61,7 @@ hydrogen-spans millikelvin pascals accepted =
     let p-from : 1000000 * lowest / 2046765 ≤ 1000000 * pascals / pc = quotient-grows {x = 1000000 * lowest} (omega (arith, pc-from millikelvin cold)) (pc-to millikelvin cold) (omega arith) in
     omega (arith, tc-from millikelvin cold, pc-from millikelvin cold, t-from millikelvin cold)
 
+-- for every fluid there are such ends
 pub record Spanned (tc pc t p : ℕ) : Type 0 where
   pub least-t : ℕ
   pub least-s : ℕ

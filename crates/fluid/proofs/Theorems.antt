@@ -1,6 +1,6 @@
 -- What is proved of the definitions of `specs/`, beside what each call promises: the bounds of a and b over every accepted state, that a density's
 -- factor is the molar mass over the gas constant, and that each promise fixes its answer. Assumes nothing.
-use mathlib.Core.Path.{_≡_, refl, sym, ap, ap₂, _∙_}
+use mathlib.Core.Path.{_≡_, refl, sym, ap, _∙_}
 use Prim.Native.Nat.{ℕ, _*_, _≤_, _<_}
 use native.Mathlib.Nat.{le-antisymm}
 use native.Mathlib.Omega.{arith}

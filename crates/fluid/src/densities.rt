@@ -11,6 +11,7 @@ use crate::coefficients::HOTTEST_MILLIKELVIN;
 // Half of the gas constant 8314.
 const HALF_GAS_CONSTANT: u64 = 4_157;
 
+// N + b for the largest b that the cubic takes.
 const LARGEST_ROOT: u64 = 1_100_000;
 
 const THOUSAND: u64 = 1_000;
@@ -29,6 +30,8 @@ pub(crate) fn quotient_in_parts(x: u64, c: u64, y: u64, m: u64) -> u64
     x / m * c + (x % m * c + y) / m
 }
 
+// The density of a root at a state, or that 64 bits do not hold its parts, or that it would divide by 0.
+// The product above the bar is split by the pressure's thousands.
 pub fn density_of(fluid: Fluid, millikelvin: u64, pascals: u64, root: u64) -> Density
     ensures { λ r. ⌜ Weighs fluid millikelvin pascals root r ⌝ }
 {

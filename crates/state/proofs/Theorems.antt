@@ -17,8 +17,8 @@ use Rattle.state.specs.declared.replies.Reply.the-variants.{One, Split, 
 use Rattle.state.specs.declared.replies.Figures.{Figures}
 use Rattle.state.specs.Figures.{refusedWith, figuresOf}
 use Rattle.state.specs.Replies.{Replies}
-use Rattle.state.specs.Book.{bookAfter, Called, Asked, without-book, with-book}
-use Rattle.state.specs.Shared.{Call, Shared, Alone}
+use Rattle.state.specs.Book.{Placed, bookAfter, Called, Asked, without-book, with-book}
+use Rattle.state.specs.Shared.{Call, Gets, Shared, Alone}
 use Rattle.state.proofs.Exactly.{Answer, accepted-state}
 use Rattle.state.proofs.Determined as determined
 
@@ -57,6 +57,10 @@ module _ (number millikelvin pascals slot : ℕ) where
   pub book-never-matters : (book other : List ℕ) → length book ≡ length other → {r s : Reply} {after after′ : List ℕ} → Called number millikelvin pascals slot book r after → Called number millikelvin pascals slot other s after′ → r ≡ s
   book-never-matters book other same {r} {s} p q = determined.book-reply-determined number millikelvin pascals slot (length other) r s (rw same at (p .replies)) (q .replies)
 
+  -- and where the book has the slot, a call without a book gives the same
+  pub same-without-book : {book after : List ℕ} {r s : Reply} → Placed slot (length book) → Called number millikelvin pascals slot book r after → Replies number millikelvin pascals s → r ≡ s
+  same-without-book {r = r} {s} placed p q = determined.reply-determined _ _ _ r s (determined.in-place number millikelvin pascals placed r (p .replies)) q
+
   -- two calls that keep what `ask_with_book` promises give one reply and leave one book
   pub call-determined : (book : List ℕ) {r s : Reply} {after after′ : List ℕ} → Called number millikelvin pascals slot book r after → Called number millikelvin pascals slot book s after′ → (r ≡ s) × (after ≡ after′)
   call-determined book p q =
@@ -80,21 +84,35 @@ module _ (number millikelvin pascals slot : ℕ) where
   book-keeps-length PressureOutOfRange p = ap length (p .leaves)
   book-keeps-length NoSuchSlot p = ap length (p .leaves)
 
--- each reply on a shared book is that of the same call on a book of its own, of the same length
-as-alone : (book own : List ℕ) → length book ≡ length own → (calls : List Call) (replies others : List Reply) → Shared book calls replies → Alone own calls others → replies ≡ others
-as-alone book own same [] [] [] shared alone = refl
-as-alone book own same [] [] (other ∷ others) shared alone = absurd alone
-as-alone book own same [] (reply ∷ replies) others shared alone = absurd shared
-as-alone book own same (call ∷ calls) [] others shared alone = absurd shared
-as-alone book own same (call ∷ calls) (reply ∷ replies) [] shared alone = absurd alone
-as-alone book own same (call ∷ calls) (reply ∷ replies) (other ∷ others) (gets, shared) (gets′, alone) =
-    let c = call in
-    ap₂ _∷_ (book-never-matters (c .fluid) (c .millikelvin) (c .pascals) (c .slot) book own same (gets .called) (gets′ .called))
-    (as-alone (gets .after) own (book-keeps-length _ _ _ _ reply (gets .called) ∙ same) calls replies others shared alone)
+-- what a call gets on one book it gets on any other of the same length
+gets-on : {call : Call} {book own : List ℕ} {reply : Reply} → length book ≡ length own → Gets call book reply → Gets call own reply
+gets-on {call} {own = own} {reply} same gets =
+    record { after = bookAfter own (call .slot) reply; called = record { replies = rw same at (gets .called .replies); leaves = refl } }
 
--- For every list of calls made one after another on one book, whatever it held, each reply is what that call gets alone with a book of zeros.
-pub shared-slot-as-alone : (book : List ℕ) (calls : List Call) (replies others : List Reply) → Shared book calls replies → Alone (replicate (length book) 0) calls others → replies ≡ others
-shared-slot-as-alone book = as-alone book (replicate (length book) 0) (sym (length-replicate (length book) 0))
+shared-gets-alone : (book own : List ℕ) → length book ≡ length own → (calls : List Call) (replies : List Reply) → Shared book calls replies → Alone own calls replies
+shared-gets-alone book own same [] [] shared = tt
+shared-gets-alone book own same [] (reply ∷ replies) shared = absurd shared
+shared-gets-alone book own same (call ∷ calls) [] shared = absurd shared
+shared-gets-alone book own same (call ∷ calls) (reply ∷ replies) (gets, shared) =
+    (gets-on same gets, shared-gets-alone (gets .after) own (book-keeps-length _ _ _ _ reply (gets .called) ∙ same) calls replies shared)
+
+pub alone-determined : (book : List ℕ) (calls : List Call) (replies others : List Reply) → Alone book calls replies → Alone book calls others → replies ≡ others
+alone-determined book [] [] [] p q = refl
+alone-determined book [] [] (other ∷ others) p q = absurd q
+alone-determined book [] (reply ∷ replies) others p q = absurd p
+alone-determined book (call ∷ calls) [] others p q = absurd p
+alone-determined book (call ∷ calls) (reply ∷ replies) [] p q = absurd q
+alone-determined book (call ∷ calls) (reply ∷ replies) (other ∷ others) (gets, p) (gets′, q) =
+    ap₂ _∷_ (book-never-matters _ _ _ _ book book refl (gets .called) (gets′ .called)) (alone-determined book calls replies others p q)
+
+-- For every list of calls made one after another on one book, whatever it held, each reply is one that the call gets alone with a book of zeros;
+module _ (book : List ℕ) (calls : List Call) (replies : List Reply) (shared : Shared book calls replies) where
+  pub shared-slot-gets-alone : Alone (replicate (length book) 0) calls replies
+  shared-slot-gets-alone = shared-gets-alone book _ (sym (length-replicate (length book) 0)) calls replies shared
+
+  -- and the only one: two customers who share a slot get what each would get alone.
+  pub shared-slot-as-alone : (others : List Reply) → Alone (replicate (length book) 0) calls others → replies ≡ others
+  shared-slot-as-alone others = alone-determined _ calls replies others shared-slot-gets-alone
 
 -- two replies that keep what `ask` promises are equal
 pub reply-determined : (number millikelvin pascals : ℕ) (r s : Reply) → Replies number millikelvin pascals r → Replies number millikelvin pascals s → r ≡ s

@@ -4,7 +4,6 @@ mod answers;
 mod checks;
 mod replies;
 
-ghost use lib.ListN.{length};
 ghost use Rattle.state.specs.Book.{Called};
 ghost use Rattle.state.specs.Replies.{Replies};
 use crate::answers::answer;
@@ -14,6 +13,7 @@ use crate::checks::check;
 pub use replies::Figures;
 pub use replies::Reply;
 
+// A book has one number a slot.
 const SLOTS: usize = 64;
 
 const LAST_SLOT: u64 = 63;
