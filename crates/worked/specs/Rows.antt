@@ -1,0 +1,54 @@
+-- What a row of the table says of the definitions of `cubic`, `fluid` and `state`.
+use mathlib.Core.Path.{_≡_}
+use mathlib.Core.List.{List, [], _∷_}
+use Prim.Native.Nat.{ℕ, _≤_}
+use lib.IntN.{ℤ}
+use Rattle.cubic.specs.Cubic.{g}
+use Rattle.fluid.specs.declared.choice.Fluid.{Fluid}
+use Rattle.fluid.specs.declared.coefficients.Reduced.{Reduced}
+use Rattle.fluid.specs.Figures.{numberOf, criticalMillikelvin, criticalPascals}
+use Rattle.fluid.specs.Reduced.{Reduces}
+use Rattle.state.specs.declared.replies.Reply.{Reply}
+use Rattle.state.specs.Figures.{figuresOf}
+use Rattle.state.specs.Book.{RepliesWithBook}
+
+-- the pressures, or the slots, of which a row speaks
+pub data Span : Type 0 where
+  only up-to : ℕ → Span
+  all : Span
+
+abbrev pub ForEach : Span → (ℕ → Type 0) → Type 0
+ForEach (only n) Holds = Holds n
+ForEach (up-to n) Holds = (k : ℕ) → k ≤ n → Holds k
+ForEach all Holds = (k : ℕ) → Holds k
+
+-- An answered row is a state with its critical constants, its coefficients, the slots and the reply; a value row is g(z) for an a and a b;
+-- a refused row has the fluid's number, the temperature, the pressures, the slots, the paper's number of the refusal and the reply.
+pub data Row : Type 0 where
+  answered : (fluid : Fluid) (millikelvin pascals critical-millikelvin critical-pascals : ℕ) → Reduced → (slots : Span) → Reply → Row
+  value : (a b z : ℕ) → ℤ → Row
+  refused : (number millikelvin : ℕ) (pressures slots : Span) (refusal : ℕ) → Reply → Row
+
+-- the reply to a call with a book of 64 numbers, whatever they are; but for `NoSuchSlot` it is the reply to a call without a book too
+abbrev pub Replied : (number millikelvin pascals slot : ℕ) → Reply → Type 0
+Replied number millikelvin pascals slot reply = RepliesWithBook number millikelvin pascals slot 64 reply
+
+pub record RightAnswer (fluid : Fluid) (millikelvin pascals critical-millikelvin critical-pascals : ℕ) (reduced : Reduced) (slots : Span) (reply : Reply) : Type 0 where
+  pub is-critical-millikelvin : critical-millikelvin ≡ criticalMillikelvin fluid millikelvin
+  pub is-critical-pascals : critical-pascals ≡ criticalPascals fluid millikelvin
+  pub reduces : Reduces fluid millikelvin pascals reduced
+  pub replies : ForEach slots (λ slot. Replied (numberOf fluid) millikelvin pascals slot reply)
+
+pub record RightRefusal (number millikelvin : ℕ) (pressures slots : Span) (refusal : ℕ) (reply : Reply) : Type 0 where
+  pub is-refusal : refusal ≡ figuresOf reply .number
+  pub replies : ForEach pressures (λ pascals. ForEach slots (λ slot. Replied number millikelvin pascals slot reply))
+
+abbrev pub Right : Row → Type 0
+Right (answered fluid millikelvin pascals critical-millikelvin critical-pascals reduced slots reply) =
+    RightAnswer fluid millikelvin pascals critical-millikelvin critical-pascals reduced slots reply
+Right (value a b z is) = g a b z ≡ is
+Right (refused number millikelvin pressures slots refusal reply) = RightRefusal number millikelvin pressures slots refusal reply
+
+pub data Every (Holds : Row → Type 0) : List Row → Type 0 where
+  none : Every Holds []
+  next : {row : Row} {rows : List Row} → Holds row → Every Holds rows → Every Holds (row ∷ rows)
