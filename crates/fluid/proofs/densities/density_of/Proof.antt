@@ -1,12 +1,12 @@
 -- `fluid::densities::density_of` meets its contract: the pressure's thousands and what they leave make the whole product (`Parts.antt`).
 -- Assumes nothing.
 use mathlib.Core.Path.{ap, _∙_}
-use Prim.Native.Nat.{ℕ, _*_, _/_}
+use Prim.Native.Nat.{ℕ, _*_, _/_, _≤_}
 use native.Mathlib.Omega.{arith}
 use Rattle.fluid.specs.declared.choice.Figures.{Figures}
 use Rattle.fluid.specs.Densities.{density}
 use Rattle.fluid.specs.Promise.{Weighable}
-use Rattle.fluid.proofs.Parts.{factor-fits, Parts, parts}
+use Rattle.fluid.proofs.Parts.{largestFactor, factor-fits, part-fits, Parts, parts}
 use Rattle.fluid.proofs.densities.density_of.Statement.{statement}
 use Rattle.fluid.proofs.densities.density_of.Tie as tie
 
@@ -14,8 +14,11 @@ use Rattle.fluid.proofs.densities.density_of.Tie as tie
 weighable : (c : tie.Else5) → let start = c .before .before .before .before .before .args in Weighable (start .millikelvin) (start .pascals) (start .root)
 weighable c = omega arith
 
+factor-known : (c : tie.After-figures-at) → c .figures-at .result .«density_factor» ≤ largestFactor
+factor-known c = rw (c .figures-at .ensures) (factor-fits (c .before .before .before .before .before .before .args .fluid))
+
 known : (c : tie.After-figures-at) → let start = c .before .before .before .before .before .before .args in Parts (c .figures-at .result .«density_factor») (start .millikelvin) (start .pascals) (start .root)
-known c = parts _ _ _ _ (rw (c .figures-at .ensures) (factor-fits (c .before .before .before .before .before .before .args .fluid))) (weighable (c .before))
+known c = parts _ _ _ _ (factor-known c) (weighable (c .before))
 
 returns : tie.Need-returns
 returns c = omega arith
@@ -36,10 +39,10 @@ figures-at-requires : tie.Need-figures-at-requires
 figures-at-requires c κs = omega arith
 
 mul-quotient-in-parts : tie.Need-mul-quotient-in-parts
-mul-quotient-in-parts c = omega (arith, known c)
+mul-quotient-in-parts c = record { fits = part-fits (factor-known c) (omega arith) }
 
 mul-quotient-in-parts-2 : tie.Need-mul-quotient-in-parts-2
-mul-quotient-in-parts-2 c = omega (arith, known c)
+mul-quotient-in-parts-2 c = record { fits = part-fits (factor-known c) (omega arith) }
 
 mul-quotient-in-parts-3 : tie.Need-mul-quotient-in-parts-3
 mul-quotient-in-parts-3 c = omega arith
