@@ -1,7 +1,7 @@
 -- What is proved of the definitions of `specs/`, beside what each call promises: the bounds of a and b over every accepted state, that a density's
 -- factor is the molar mass over the gas constant, and that each promise fixes its answer. Assumes nothing.
 use mathlib.Core.Path.{_≡_, refl, sym, ap, _∙_}
-use Prim.Native.Nat.{ℕ, _*_, _≤_, _<_}
+use Prim.Native.Nat.{ℕ, zero, suc, _*_, _≤_, _<_}
 use native.Mathlib.Nat.{le-antisymm}
 use native.Mathlib.Omega.{arith}
 use Rattle.fluid.specs.declared.choice.Fluid.{Fluid}
@@ -42,11 +42,18 @@ module _ {fluid : Fluid} {millikelvin pascals : ℕ} {reduced : Reduced} (reache
   pub b-at-most : reduced .b ≤ 1000000
   b-at-most = omega (arith, within, reached .reduces)
 
+-- no two fluids have one number
+fluidOf : (number : ℕ) → Fluid
+fluidOf zero = Hydrogen
+fluidOf (suc n) = Oxygen
+
+fluid-of-number : (fluid : Fluid) → fluidOf (numberOf fluid) ≡ fluid
+unfolding fluidOf
+fluid-of-number Hydrogen = refl
+fluid-of-number Oxygen = refl
+
 pub number-determines-fluid : (f g : Fluid) → numberOf f ≡ numberOf g → f ≡ g
-number-determines-fluid Hydrogen Hydrogen same = refl
-number-determines-fluid Hydrogen Oxygen same = absurd (omega arith)
-number-determines-fluid Oxygen Hydrogen same = absurd (omega arith)
-number-determines-fluid Oxygen Oxygen same = refl
+number-determines-fluid f g same = sym (fluid-of-number f) ∙ ap fluidOf same ∙ fluid-of-number g
 
 pub square-root-unique : {n r s : ℕ} → SquareRoot n r → SquareRoot n s → r ≡ s
 square-root-unique {r = r} {s} p q = le-antisymm (q .largest r (p .square)) (p .largest s (q .square))
