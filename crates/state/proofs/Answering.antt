@@ -40,9 +40,15 @@ module _ {fluid : Fluid} {millikelvin pascals : ℕ} {reduced : Reduced} (reache
     weighty =
         record { gas-fits = weighable (roots .is-gas .crossing); dense-fits = weighable (roots .is-dense .crossing) }
 
-    -- a root fits a slot of the book
-    pub fits-slot : gas < 4294967296
-    fits-slot = omega (arith, b-at-most reached, crossing-on-grid _ _ gas (roots .is-gas .crossing))
+    -- either root fits a slot of the book
+    pub fits-slot : (gas < 4294967296) × (dense < 4294967296)
+    fits-slot =
+        omega (
+          arith,
+          b-at-most reached,
+          crossing-on-grid _ _ gas (roots .is-gas .crossing),
+          crossing-on-grid _ _ dense (roots .is-dense .crossing),
+        )
 
     named : {kind : Kind} {gas-root dense-root gas-density dense-density : ℕ} → Reported fluid millikelvin pascals gas dense kind gas-root dense-root gas-density dense-density → Answered fluid millikelvin pascals kind gas-root dense-root gas-density dense-density
     named r =
