@@ -12,7 +12,7 @@ use Rattle.fluid.specs.Promise.{largestRoot, Weighable}
 use Rattle.fluid.proofs.Quotients.{quotient-grows}
 
 abbrev pub largestFactor : ℕ
-largestFactor = 159994 * 10000000
+largestFactor = densityFactor Oxygen
 
 pub factor-fits : (fluid : Fluid) → densityFactor fluid ≤ largestFactor
 factor-fits Hydrogen = omega arith

@@ -32,7 +32,8 @@ pub fn ask(fluid: u64, millikelvin: u64, pascals: u64) -> Reply
 }
 
 // With a book: the search may begin at what the slot holds, and leaves the gas root there. The number in
-// the slot is a place to look first and changes no reply.
+// the slot is a place to look first and changes no reply. A slot that there is not is told last, after
+// every earlier refusal.
 pub fn ask_with_book(
     fluid: u64,
     millikelvin: u64,
@@ -43,7 +44,7 @@ pub fn ask_with_book(
     ensures { λ r. ⌜ Called fluid millikelvin pascals slot (now (book .entry)) r (now (book .exit)) ⌝ }
 {
     match check(fluid, millikelvin, pascals) {
-        Checked::Refused(refusal) => refusal,
+        Checked::Refused(earlier) => earlier,
         Checked::Accepted { fluid, reduced } => {
             if book.len() != SLOTS {
                 return Reply::NoSuchSlot;

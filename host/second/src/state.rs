@@ -165,8 +165,11 @@ mod tests {
         }
     }
 
-    fn reduced_state(fluid: u64, millikelvin: u64, pascals: u64) -> Reduced {
-        reduced(&critical(fluid, millikelvin), millikelvin, pascals)
+    /// t, p, s, a and b.
+    fn coefficients(fluid: u64, millikelvin: u64, pascals: u64) -> [u64; 5] {
+        let Reduced { t, p, s, a, b } =
+            reduced(&critical(fluid, millikelvin), millikelvin, pascals);
+        [t, p, s, a, b]
     }
 
     /// Eight times g half a step above z: negative where the root above z is nearer to z + 1.
@@ -179,27 +182,15 @@ mod tests {
 
     #[test]
     fn oxygen_at_300_kelvin() {
-        let expected = Reduced {
-            t: 19_407,
-            p: 198_333,
-            s: 13_930,
-            a: 1616,
-            b: 885,
-        };
-        assert_eq!(reduced_state(OXYGEN, 300_000, 1_000_000), expected);
+        let expected = [19_407, 198_333, 13_930, 1616, 885];
+        assert_eq!(coefficients(OXYGEN, 300_000, 1_000_000), expected);
         assert_eq!(reply(OXYGEN, 300_000, 1_000_000), one(99_286, 12_921));
     }
 
     #[test]
     fn oxygen_at_120_kelvin() {
-        let expected = Reduced {
-            t: 7763,
-            p: 99_166,
-            s: 8810,
-            a: 7984,
-            b: 1106,
-        };
-        assert_eq!(reduced_state(OXYGEN, 120_000, 500_000), expected);
+        let expected = [7763, 99_166, 8810, 7984, 1106];
+        assert_eq!(coefficients(OXYGEN, 120_000, 500_000), expected);
         assert_eq!(g(7984, 1106, 1699), -292_242_865);
         assert_eq!(g(7984, 1106, 1700), 63_098_800);
         assert_eq!(g(7984, 1106, 92_696), -84_314_720);
@@ -221,20 +212,14 @@ mod tests {
             pascals: 1_907_366,
         };
         assert_eq!(critical(HYDROGEN, 300_000), expected);
-        let expected = Reduced {
-            t: 71_287,
-            p: 524_283,
-            s: 26_699,
-            a: 165,
-            b: 637,
-        };
-        assert_eq!(reduced_state(HYDROGEN, 300_000, 1_000_000), expected);
+        let expected = [71_287, 524_283, 26_699, 165, 637];
+        assert_eq!(coefficients(HYDROGEN, 300_000, 1_000_000), expected);
         assert_eq!(reply(HYDROGEN, 300_000, 1_000_000), one(100_474, 804));
     }
 
     #[test]
     fn hydrogen_at_1000_kelvin() {
-        let Reduced { a, b, .. } = reduced_state(HYDROGEN, 1_000_000, 10_000);
+        let [.., a, b] = coefficients(HYDROGEN, 1_000_000, 10_000);
         assert_eq!((a, b), (0, 1));
         assert_eq!(reply(HYDROGEN, 1_000_000, 10_000), one(100_001, 2));
     }
@@ -289,7 +274,8 @@ mod tests {
             ..critical(HYDROGEN, 300_000)
         };
         assert_eq!(reduced(&wrong, 300_000, 1_000_000).b, 499);
-        assert_eq!(reduced_state(HYDROGEN, 300_000, 1_000_000).b, 637);
+        let [.., b] = coefficients(HYDROGEN, 300_000, 1_000_000);
+        assert_eq!(b, 637);
     }
 
     /// The nearest whole number is the root at 92696, and not at 100474.

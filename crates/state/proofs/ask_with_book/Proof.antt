@@ -27,8 +27,8 @@ holds-start c = omega (arith, c .slice-known2 .given (c .before .before .before 
 check-requires : tie.Need-check-requires
 check-requires c κs = search needs
 
-enum-known-refusal : tie.Need-enum-known-refusal
-enum-known-refusal c = search needs
+enum-known-earlier : tie.Need-enum-known-earlier
+enum-known-earlier c = search needs
 
 enum-known-fluid : tie.Need-enum-known-fluid
 enum-known-fluid c = search needs
@@ -72,8 +72,8 @@ answer-requires c κs = weighty (checked (c .before .before .before .before .bef
 returns-3 : tie.Need-returns-3
 returns-3 c =
     let start = c .before .before .before .before .before .args in
-    refused-before-slot (start .fluid) (start .millikelvin) (start .pascals) _ _ (c .before .refusal .given .0 .0)
-    (rw (c .before .refusal .given .1) at (c .before .before .before .check .ensures))
+    refused-before-slot (start .fluid) (start .millikelvin) (start .pascals) _ _ (c .before .earlier .given .0 .0)
+    (rw (c .before .earlier .given .1) at (c .before .before .before .check .ensures))
 
 same-length : tie.Need-same-length
 same-length c = search needs
@@ -88,7 +88,7 @@ ask-with-book-spec =
     tie.close
     (tie.spec
     check-requires
-    enum-known-refusal
+    enum-known-earlier
     enum-known-fluid
     returns
     returns-2
