@@ -2,4 +2,5 @@
 //! what the proved crates answer is compared with it. It shares no code with them.
 
 pub mod cubic;
+pub mod heat;
 pub mod state;

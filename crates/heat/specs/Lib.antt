@@ -1,0 +1,6 @@
+-- What a reader must believe of hydrogen's ideal heat capacity: the printed table, the order of operations, what comes back, and when.
+pub mod Table
+pub mod Evaluation
+pub mod Replies
+pub mod Promise
+pub mod Inside
