@@ -1,7 +1,8 @@
 -- Up to 40 K the chain runs over zeros, and each of its steps but the last leaves zero: the answer is A1 itself, the double of 10.3121.
+-- Assumes nothing.
 use mathlib.Core.Path.{_≡_, refl, ap, _∙_, sym}
 use mathlib.Core.Bool.{false, true}
-use Prim.Native.Nat.{ℕ, _*_}
+use Prim.Native.Nat.{_*_}
 use native.Mathlib.Nat.{zero-mul, mul-pos}
 use lib.Dec.{T, lit<}
 use lib.IntN.{pos}

@@ -1,5 +1,4 @@
--- Every double is in the range or out of it, and three tests that compute tell which.
-use mathlib.Core.Path.{_≡_, sym, subst}
+-- Every double is in the range or out of it, and three tests that compute tell which. Assumes nothing.
 use mathlib.Core.Bool.{Bool, true, false, _&&_}
 use mathlib.Core.Logic.{_⊎_, inl, inr}
 use Prim.Native.Nat.{_*_}
@@ -16,10 +15,10 @@ module _ (kelvin : Float) where
   abbrev to : Bool
   to = leb (num kelvin) (1000 * den kelvin)
 
-  abbrev inside : Bool
+  abbrev pub inside : Bool
   inside = positive kelvin && (from && to)
 
-  told-inside : T inside → InRange kelvin
+  pub told-inside : T inside → InRange kelvin
   told-inside passed =
       let ends = and-r (positive kelvin) (from && to) passed in
       record {
@@ -28,7 +27,7 @@ module _ (kelvin : Float) where
         to-1000 = leb→le _ _ (and-r from to ends);
       }
 
-  passes : InRange kelvin → T inside
+  pub passes : InRange kelvin → T inside
   passes in-range = and-i (positive kelvin) (from && to) (in-range .is-number) (and-i from to (le→leb _ _ (in-range .from-14)) (le→leb _ _ (in-range .to-1000)))
 
   pub in-or-out : InRange kelvin ⊎ (InRange kelvin → ⊥)

@@ -1,4 +1,5 @@
 -- What every reply to a temperature is: the double of its range's row where it is in range, and the refusal where it is not.
+-- Assumes nothing.
 use mathlib.Core.Path.{_≡_, refl, ap, _∙_}
 use lib.Ieee.{Float}
 use Rattle.heat.specs.declared.replies.HeatCapacity.{HeatCapacity}

@@ -1,5 +1,5 @@
 -- Every answer is a finite double. A coefficient is below 2 ^ 4 and a temperature in range below 2 ^ 10, so a step of the chain makes a number
--- larger by 11 binary digits at most, and four steps stay far below the largest double.
+-- larger by 11 binary digits at most, and four steps stay far below the largest double. Assumes nothing.
 use Prim.Native.Nat.{ℕ, _+_, _*_, _^_, _≤_}
 use native.Mathlib.Nat.{le-trans, le-add-right, mul-le-mul-right}
 use native.Mathlib.Omega.{arith}

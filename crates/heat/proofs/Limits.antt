@@ -1,5 +1,5 @@
 -- A temperature against a whole number of kelvin: what a comparison of doubles tells of the exact fractions, and the other way round. These
--- laws serve every limit, and a NaN needs no case of its own: it passes no comparison.
+-- laws serve every limit, and a NaN needs no case of its own: it passes no comparison. Assumes nothing.
 use mathlib.Core.Path.{_≡_, sym, subst}
 use mathlib.Core.Bool.{Bool, true, false}
 use Prim.Native.Nat.{ℕ, _*_, _≤_, _<_}

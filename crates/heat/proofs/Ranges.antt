@@ -1,8 +1,8 @@
 -- Table 4's ranges cover every temperature, and no two of them hold the same one: each is the range that three comparisons of the exact
--- fractions find.
+-- fractions find. Assumes nothing.
 use mathlib.Core.Path.{_≡_, refl, sym, _∙_}
 use mathlib.Core.Bool.{Bool, true, false, cond}
-use Prim.Native.Nat.{ℕ, _*_, _≤_, _<_}
+use Prim.Native.Nat.{ℕ, _*_}
 use native.Mathlib.Omega.{arith}
 use lib.Dec.{leb}
 use lib.Ieee.{Float}

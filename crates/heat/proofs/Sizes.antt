@@ -2,20 +2,20 @@
 -- chain of operations on small numbers meets no infinity, and hence no NaN. For either format. Assumes nothing.
 use mathlib.Core.Path.{_≡_, sym, ap, _∙_, subst}
 use mathlib.Core.Bool.{Bool, true, false, cond, _&&_, Bool·beq}
-use Prim.Native.Nat.{ℕ, suc, _+_, _-_, _*_, _/_, _%_, _^_, _≤_, _<_, compare}
+use Prim.Native.Nat.{ℕ, suc, _+_, _-_, _*_, _/_, _^_, _≤_, _<_, compare}
 use native.Mathlib.Nat.{le-trans, le-of-eq, lt-of-le-of-lt, mul-one, mul-comm, mul-assoc, mul-left-comm, mul-right-comm, mul-le-mul, mul-le-mul-right, le-of-mul-le-mul-right, mul-pos, div-one, mod-one}
 use native.Mathlib.Numerals.{lt-add-one}
 use native.Mathlib.Omega.{arith}
 use lib.Dec.{T, ltb, lit<}
 use lib.Pow.{pow-pos, pow-lt, pow-add}
-use lib.Ieee.{Float, nan, inf, fin, Format, prec, emax, low, up, down, size, nearest, round, sum, add, mul, unlike}
+use lib.Ieee.{Float, nan, inf, fin, Format, prec, emax, low, down, size, nearest, round, sum, add, mul, unlike}
 use lib.Ieee.Digits.{size-le, back}
 use lib.Ieee.Exact.{HasValue, units-val}
 use lib.Ieee.Fits.{two, down-pos, round-is}
 use lib.Ieee.Nearest.{closest, closest-mono, div-mono}
 use lib.Ieee.Order.{kept, drop}
 use lib.Ieee.Scale.{grid, finite}
-use lib.Ieee.Positive.{num, den, den-pos}
+use lib.Ieee.Positive.{num, den}
 
 -- finite, and of a size of at most 2 ^ k
 pub record Bounded (k : ℕ) (x : Float) : Type 0 where

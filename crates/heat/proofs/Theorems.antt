@@ -2,7 +2,7 @@
 -- pattern, and up to 40 K it is the double of 10.3121. Assumes nothing.
 use mathlib.Core.Path.{_≡_, refl, sym, ap, _∙_}
 use mathlib.Core.Bool.{not}
-use mathlib.Core.Logic.{_⊎_, inl, inr}
+use mathlib.Core.Logic.{inl, inr}
 use Prim.Native.Nat.{ℕ, _^_, _<_}
 use lib.Dec.{T}
 use lib.Ieee.{Float, nan, inf, fin, binary64, isNan, ofBits, toBits}
@@ -15,8 +15,9 @@ use Rattle.heat.specs.Table.{plus, up-to-40, Holds, nearestDouble}
 use Rattle.heat.specs.Replies.{comesBack, numberOf}
 use Rattle.heat.specs.Promise.{InRange, Answered, Answers}
 use Rattle.heat.proofs.Ranges.{rangeOf, found-holds}
-use Rattle.heat.proofs.Decided.{in-or-out}
+use Rattle.heat.proofs.Decided.{told-inside, in-or-out}
 use Rattle.heat.proofs.Exactly.{in-range-is-answered, out-of-range-is-refused}
+use Rattle.heat.proofs.Points.{told-held}
 use Rattle.heat.proofs.Finite as finite-answers
 use Rattle.heat.proofs.Constant.{constant-up-to-40}
 
@@ -58,12 +59,18 @@ module _ (kelvin heat : Float) (answered : Answered kelvin heat) where
       no-nan (inf s) is-finite = tt
       no-nan (fin s m e) is-finite = tt
 
-  -- The logic's NaN has many patterns, every other double has one. So the answer, equal as data, is equal bit for bit.
+  -- A NaN of the logic stands for many patterns, every other double for one. So an answer that is equal as data is equal bit for bit.
   pub answer-has-one-pattern : (pattern : ℕ) → pattern < 2 ^ 64 → ofBits binary64 pattern ≡ heat → pattern ≡ toBits binary64 heat
   answer-has-one-pattern pattern in-64-bits is-answer =
       sym (toBits-ofBits binary64 pattern in-64-bits (rw is-answer answer-is-no-nan)) ∙ ap (toBits binary64) is-answer
 
--- ---- document 01's point, and the whole range that it is the end of
+-- ---- document 01's point at 40 K, and the whole range that it is the end of
 pub up-to-40-is-10-3121 : (kelvin : Float) → InRange kelvin → Holds up-to-40 kelvin → (reply : HeatCapacity) → Answers kelvin (comesBack reply) → reply ≡ KilojoulesPerKilogramKelvin (nearestDouble (plus 103121 4))
 up-to-40-is-10-3121 kelvin inside holds reply answers =
     in-range-is-answered kelvin inside up-to-40 holds reply answers ∙ ap KilojoulesPerKilogramKelvin (constant-up-to-40 kelvin (inside .is-number))
+
+pub at-40-is-10-3121 : (reply : HeatCapacity) → Answers (ofBits binary64 0x4044_0000_0000_0000) (comesBack reply) → reply ≡ KilojoulesPerKilogramKelvin (nearestDouble (plus 103121 4))
+unfolding ofBits
+at-40-is-10-3121 =
+    let forty = ofBits binary64 0x4044_0000_0000_0000 in
+    up-to-40-is-10-3121 forty (told-inside forty tt) (told-held forty up-to-40 tt)

@@ -3,4 +3,5 @@ pub mod Table
 pub mod Evaluation
 pub mod Replies
 pub mod Promise
+pub mod Points
 pub mod Inside

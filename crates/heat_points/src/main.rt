@@ -6,13 +6,16 @@ use heat::HeatCapacity;
 use libc::STDIN_FILENO;
 use libc::STDOUT_FILENO;
 ghost use mathlib.Core.Path.{_≡_};
-ghost use Prim.Native.Nat.{_+_, _≤_, _<_, max};
+ghost use Prim.Native.Nat.{_+_, _≤_, _<_};
 ghost use lib.Ieee.{binary64, ofBits};
 ghost use lib.ListN.{length};
 
 const SIGN: u64 = 0x8000_0000_0000_0000;
 
 const INFINITY: u64 = 0x7ff0_0000_0000_0000;
+
+// A pattern of fewer than 16 digits is below this, so that one more digit fits.
+const SIXTEENTH_DIGIT: u64 = 0x1000_0000_0000_0000;
 
 const NO_DIGIT: u64 = 16;
 
@@ -52,7 +55,7 @@ fn pattern_at(text: &[u8], at: usize) -> Pattern
         if value == NO_DIGIT {
             break;
         }
-        bits = (bits % (SIGN / 8)) * 16 + value;
+        bits = (bits % SIXTEENTH_DIGIT) * 16 + value;
         place += 1;
     }
     Pattern {
@@ -61,7 +64,8 @@ fn pattern_at(text: &[u8], at: usize) -> Pattern
     }
 }
 
-// A NaN's pattern is turned into no double by itself, since no program may depend on which NaN it is.
+// Every NaN is 0 / 0 here: the language makes none from its bits, since no answer may depend on which
+// NaN it is.
 fn double_of(bits: u64) -> f64
     ensures { λ r. ⌜ r ≡ ofBits binary64 bits ⌝ }
 {

@@ -10,6 +10,16 @@ pub const TABLE_4: [&str; 4] = [
     "14.4714861 -0.7176787e-3 0.18638538e-5 -0.5306547e-9 0.46649305e-13",
 ];
 
+/// Patterns of doubles that are no number, signalling ones and quiet ones, the sign left out.
+pub const NOT_NUMBERS: [u64; 6] = [
+    0x7ff0_0000_0000_0001,
+    0x7ff4_0000_0000_0000,
+    0x7ff7_ffff_ffff_ffff,
+    0x7ff8_0000_0000_0000,
+    0x7ff8_0000_0000_0001,
+    0x7fff_ffff_ffff_ffff,
+];
+
 /// The heat capacity in kJ/(kg K), or the number of the refusal. A NaN is in no range, so asking
 /// whether the range holds it refuses it; asking whether it lies below or above would let it pass.
 pub fn heat_capacity(kelvin: f64) -> Result<f64, u64> {
@@ -155,14 +165,7 @@ mod tests {
     /// Document 01, "Errors that look right": a NaN slips past two comparisons.
     #[test]
     fn not_a_number() {
-        for pattern in [
-            0x7ff0_0000_0000_0001,
-            0x7ff4_0000_0000_0000,
-            0x7ff7_ffff_ffff_ffff,
-            0x7ff8_0000_0000_0000,
-            0x7ff8_0000_0000_0001,
-            0x7fff_ffff_ffff_ffff,
-        ] {
+        for pattern in NOT_NUMBERS {
             for pattern in [pattern, pattern | SIGN] {
                 let kelvin = f64::from_bits(pattern);
                 assert!(kelvin.is_nan());
@@ -206,5 +209,29 @@ mod tests {
         assert!(others(fused) > 0);
         assert!(others(adding_first) > 0);
         assert!(others(by_powers) > 0);
+    }
+
+    /// Document 01: the first column is five halves of hydrogen's gas constant per kilogram to three
+    /// figures. 8314 and 2.01594 are its gas constant and molar mass.
+    #[test]
+    fn first_column_is_five_halves_of_the_gas_constant() {
+        let five_halves = 2.5 * 8.314 / 2.01594;
+        assert_eq!(
+            format!("{five_halves:.1}"),
+            format!("{:.1}", first_row(14.0))
+        );
+    }
+
+    /// Document 01: "The small jumps at 40, 150 and 500 stay." They also tell which of two exponents
+    /// is the right one: TM-564 prints A5 of the second row with -8 in Table 4, and with -6 where
+    /// Table 17 has the same coefficients.
+    #[test]
+    fn jumps_are_small() {
+        let jump = |below: Row, above: Row, end: f64| (above(end) - below(end)).abs();
+        assert!(jump(first_row, second_row, 40.0) < 0.1);
+        assert!(jump(second_row, third_row, 150.0) < 0.1);
+        assert!(jump(third_row, fourth_row, 500.0) < 0.1);
+        let with_minus_6 = |t: f64| second_row(t) + (0.57121808e-6 - 0.57121808e-8) * t.powi(4);
+        assert!((third_row(150.0) - with_minus_6(150.0)).abs() > 100.0);
     }
 }

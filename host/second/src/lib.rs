@@ -3,4 +3,5 @@
 
 pub mod cubic;
 pub mod heat;
+pub mod random;
 pub mod state;

@@ -1,5 +1,5 @@
 -- `heat::ideal_heat_capacity` meets its contract. What lies between two doubles that are numbers is a number; what fails either test is none in
--- the range.
+-- the range. Assumes nothing.
 use mathlib.Core.Path.{refl, _∙_, ap}
 use native.Mathlib.Nat.{not-le-of-lt}
 use borrow.Author.Needs.{needs}

@@ -1,4 +1,5 @@
 -- `heat_points::double_of` meets its contract. A pattern is a NaN's exactly where it is above the infinity's, the sign left out.
+-- Assumes nothing.
 use mathlib.Core.Path.{_≡_, refl, sym, _∙_}
 use mathlib.Core.Bool.{true, true≢false}
 use lib.Ieee.{Float, nan, inf, fin, binary64, div, isNan, ofBits}

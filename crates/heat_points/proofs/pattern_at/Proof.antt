@@ -21,9 +21,6 @@ shared-slice-read-digit c = omega arith
 digit-requires : tie.Need-digit-requires Inv-loop μ-loop
 digit-requires c κs = tt
 
-rem-bits : tie.Need-rem-bits Inv-loop μ-loop
-rem-bits c = omega arith
-
 mul-bits : tie.Need-mul-bits Inv-loop μ-loop
 mul-bits c = omega arith
 
@@ -39,8 +36,8 @@ loop-less c = omega arith
 loop-again : tie.Need-loop-again Inv-loop μ-loop
 loop-again c = omega arith
 
-add-t13 : tie.Need-add-t13 Inv-loop μ-loop
-add-t13 c = omega arith
+add-t12 : tie.Need-add-t12 Inv-loop μ-loop
+add-t12 c = omega arith
 
 returns : tie.Need-returns Inv-loop μ-loop
 returns c = omega arith
@@ -54,11 +51,10 @@ pattern-at-spec =
     loop-holds
     shared-slice-read-digit
     digit-requires
-    rem-bits
     mul-bits
     add-bits
     add-place
     loop-less
     loop-again
-    add-t13
+    add-t12
     returns)

@@ -7,6 +7,7 @@
 //! never looks at the start.
 
 use second::cubic::{crossings, g, N};
+use second::random::Random;
 use std::collections::HashMap;
 use std::io::{self, BufWriter, Read, Write};
 
@@ -222,29 +223,10 @@ fn spread(list: &mut List) {
     while list.text.len() < LARGEST_LIST - 64 {
         let a = random.magnitude(LARGEST_A);
         let b = random.magnitude(LARGEST_B);
-        if random.next() < u64::MAX / 4 {
+        if random.number() < u64::MAX / 4 {
             list.one_start(a, b);
         } else {
             list.one_start(a % 60_000, b % 9_000);
         }
-    }
-}
-
-/// Numbers that are the same in every run (Steele, Lea and Flood's SplitMix).
-struct Random(u64);
-
-impl Random {
-    fn next(&mut self) -> u64 {
-        self.0 = self.0.wrapping_add(0x9E37_79B9_7F4A_7C15);
-        let mut mixed = self.0;
-        mixed = (mixed ^ (mixed >> 30)).wrapping_mul(0xBF58_476D_1CE4_E5B9);
-        mixed = (mixed ^ (mixed >> 27)).wrapping_mul(0x94D0_49BB_1331_11EB);
-        mixed ^ (mixed >> 31)
-    }
-
-    /// A number up to `most`, small ones as likely as large ones.
-    fn magnitude(&mut self, most: u64) -> u64 {
-        let bits = self.next() % (u64::from(most.ilog2()) + 1) + 1;
-        (self.next() % (1 << bits)).min(most)
     }
 }

@@ -6,7 +6,8 @@
 //! `list` chooses temperatures in kelvin, each the 64-bit pattern of a double, since a decimal could
 //! tell neither one NaN from another nor every double from the next; `answer` answers each.
 
-use second::heat::heat_capacity;
+use second::heat::{heat_capacity, NOT_NUMBERS};
+use second::random::Random;
 use std::io::{self, BufWriter, Read, Write};
 
 /// Where a row of Table 4 ends, or all of it.
@@ -14,6 +15,10 @@ const ENDS: [f64; 5] = [14.0, 40.0, 150.0, 500.0, 1000.0];
 
 /// The sign of a double.
 const SIGN: u64 = 1 << 63;
+
+/// How many doubles away from an end is still near it: a sixteenth of a kelvin at 14, four kelvins
+/// at 1000.
+const NEAR: u64 = (1 << 45) - 1;
 
 fn main() -> io::Result<()> {
     match std::env::args().nth(1).as_deref() {
@@ -95,13 +100,11 @@ fn ends(list: &mut List) {
 /// NaNs, quiet and signalling, the infinities, the zeros, the smallest and largest doubles of each
 /// form, and the ends with a minus sign.
 fn outside(list: &mut List) {
+    for pattern in NOT_NUMBERS {
+        list.pattern(pattern);
+        list.pattern(pattern | SIGN);
+    }
     for pattern in [
-        0x7ff0_0000_0000_0001,
-        0x7ff4_0000_0000_0000,
-        0x7ff7_ffff_ffff_ffff,
-        0x7ff8_0000_0000_0000,
-        0x7ff8_0000_0000_0001,
-        0x7fff_ffff_ffff_ffff,
         f64::INFINITY.to_bits(),
         0,
         1,
@@ -130,18 +133,17 @@ fn spread(list: &mut List, random: &mut Random) {
     for (row, count) in [100, 400, 400, 400].into_iter().enumerate() {
         let [low, high] = [ENDS[row], ENDS[row + 1]].map(f64::to_bits);
         for _ in 0..count {
-            list.pattern(low + random.next() % (high - low));
+            list.pattern(low + random.number() % (high - low));
         }
     }
 }
 
-/// Both sides of each end, from the end itself to a sixteenth of a kelvin away at 14 and four kelvins
-/// at 1000, the nearest doubles as often as the farthest.
+/// Both sides of each end, the nearest doubles as often as the farthest.
 fn near_the_ends(list: &mut List, random: &mut Random) {
     for end in ENDS.map(f64::to_bits) {
         for _ in 0..20 {
-            list.pattern(end - random.magnitude());
-            list.pattern(end + random.magnitude());
+            list.pattern(end - random.magnitude(NEAR));
+            list.pattern(end + random.magnitude(NEAR));
         }
     }
 }
@@ -149,25 +151,6 @@ fn near_the_ends(list: &mut List, random: &mut Random) {
 /// Patterns of every kind, nearly all of them far outside the range.
 fn any_pattern(list: &mut List, random: &mut Random) {
     for _ in 0..400 {
-        list.pattern(random.next());
-    }
-}
-
-/// Numbers that are the same in every run (Steele, Lea and Flood's SplitMix).
-struct Random(u64);
-
-impl Random {
-    fn next(&mut self) -> u64 {
-        self.0 = self.0.wrapping_add(0x9E37_79B9_7F4A_7C15);
-        let mut mixed = self.0;
-        mixed = (mixed ^ (mixed >> 30)).wrapping_mul(0xBF58_476D_1CE4_E5B9);
-        mixed = (mixed ^ (mixed >> 27)).wrapping_mul(0x94D0_49BB_1331_11EB);
-        mixed ^ (mixed >> 31)
-    }
-
-    /// A number below 2 to the 45th, small ones as likely as large ones.
-    fn magnitude(&mut self) -> u64 {
-        let bits = self.next() % 45 + 1;
-        self.next() % (1 << bits)
+        list.pattern(random.number());
     }
 }

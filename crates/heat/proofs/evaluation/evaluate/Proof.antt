@@ -1,4 +1,4 @@
--- `heat::evaluate` meets its contract: its operations are the definition's, one for one.
+-- `heat::evaluate` meets its contract: its operations are the definition's, one for one. Assumes nothing.
 use mathlib.Core.Path.{refl}
 use Rattle.heat.specs.Evaluation.{step, evaluated}
 use Rattle.heat.proofs.evaluation.evaluate.Statement.{statement}

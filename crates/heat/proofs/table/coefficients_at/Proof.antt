@@ -1,5 +1,5 @@
 -- `heat::coefficients_at` meets its contract. Each test that was taken or left is a limit of the range, and the row is the one at its place in
--- the table.
+-- the table. Assumes nothing.
 use mathlib.Core.Path.{refl}
 use borrow.Author.Needs.{needs}
 use lib.Ieee.{ofBits}

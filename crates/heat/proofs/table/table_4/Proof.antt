@@ -1,4 +1,5 @@
 -- `heat::table_4` meets its contract: all twenty literals are the nearest doubles of the printed decimals, by computing the roundings.
+-- Assumes nothing.
 use mathlib.Core.Path.{refl}
 use lib.Ieee.{ofBits, round}
 use Rattle.heat.specs.Table.{printed, nearestDouble, coefficientsOf}

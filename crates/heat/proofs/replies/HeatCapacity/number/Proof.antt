@@ -1,4 +1,4 @@
--- `heat::HeatCapacity::number` meets its contract, case by case.
+-- `heat::HeatCapacity::number` meets its contract, case by case. Assumes nothing.
 use mathlib.Core.Path.{refl}
 use borrow.Author.Needs.{needs}
 use Rattle.heat.proofs.replies.HeatCapacity.number.Statement.{statement}
