@@ -29,7 +29,7 @@ times (fin false m e) is-number =
     zero-is = unfold round in refl
 
 abbrev only : Decimal
-only = plus 103121 4
+only = plus 103121 4 0
 
 pattern : Float
 pattern = ofBits binary64 0x4024_9fcb_923a_29c7

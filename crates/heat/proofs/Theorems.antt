@@ -65,11 +65,11 @@ module _ (kelvin heat : Float) (answered : Answered kelvin heat) where
       sym (toBits-ofBits binary64 pattern in-64-bits (rw is-answer answer-is-no-nan)) ∙ ap (toBits binary64) is-answer
 
 -- ---- document 01's point at 40 K, and the whole range that it is the end of
-pub up-to-40-is-10-3121 : (kelvin : Float) → InRange kelvin → Holds up-to-40 kelvin → (reply : HeatCapacity) → Answers kelvin (comesBack reply) → reply ≡ KilojoulesPerKilogramKelvin (nearestDouble (plus 103121 4))
+pub up-to-40-is-10-3121 : (kelvin : Float) → InRange kelvin → Holds up-to-40 kelvin → (reply : HeatCapacity) → Answers kelvin (comesBack reply) → reply ≡ KilojoulesPerKilogramKelvin (nearestDouble (plus 103121 4 0))
 up-to-40-is-10-3121 kelvin inside holds reply answers =
     in-range-is-answered kelvin inside up-to-40 holds reply answers ∙ ap KilojoulesPerKilogramKelvin (constant-up-to-40 kelvin (inside .is-number))
 
-pub at-40-is-10-3121 : (reply : HeatCapacity) → Answers (ofBits binary64 0x4044_0000_0000_0000) (comesBack reply) → reply ≡ KilojoulesPerKilogramKelvin (nearestDouble (plus 103121 4))
+pub at-40-is-10-3121 : (reply : HeatCapacity) → Answers (ofBits binary64 0x4044_0000_0000_0000) (comesBack reply) → reply ≡ KilojoulesPerKilogramKelvin (nearestDouble (plus 103121 4 0))
 unfolding ofBits
 at-40-is-10-3121 =
     let forty = ofBits binary64 0x4044_0000_0000_0000 in

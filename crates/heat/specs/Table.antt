@@ -1,6 +1,6 @@
 -- TM-564, Table 4, as document 01 prints it: four ranges of the temperature, and the five coefficients of each.
 use mathlib.Core.List.{List, _∷_, []}
-use Prim.Native.Nat.{ℕ, _*_, _^_, _≤_, _<_}
+use Prim.Native.Nat.{ℕ, _+_, _*_, _^_, _≤_, _<_}
 use mathlib.Core.Bool.{Bool, true, false}
 use lib.Ieee.{Float, binary64, round}
 use lib.Ieee.Positive.{num, den}
@@ -12,11 +12,12 @@ pub record Decimal : Type 0 where
   pub digits : ℕ
   pub places : ℕ
 
-abbrev pub plus : (digits places : ℕ) → Decimal
-plus digits places = record { negative = false; digits = digits; places = places }
+-- 0.32100769e-2 is `plus 32100769 8 2`: its digits, how many of them stand behind the point, and its exponent without the minus
+abbrev pub plus : (digits behind-point exponent : ℕ) → Decimal
+plus digits behind-point exponent = record { negative = false; digits = digits; places = behind-point + exponent }
 
-abbrev pub minus : (digits places : ℕ) → Decimal
-minus digits places = record { negative = true; digits = digits; places = places }
+abbrev pub minus : (digits behind-point exponent : ℕ) → Decimal
+minus digits behind-point exponent = record { negative = true; digits = digits; places = behind-point + exponent }
 
 pub record Row : Type 0 where
   pub a1 : Decimal
@@ -38,12 +39,11 @@ Holds up-to-150 kelvin = (40 * den kelvin < num kelvin) × (num kelvin ≤ 150 *
 Holds up-to-500 kelvin = (150 * den kelvin < num kelvin) × (num kelvin ≤ 500 * den kelvin)
 Holds above-500 kelvin = 500 * den kelvin < num kelvin
 
--- 0.32100769e-2 is 32100769 / 10 ^ 10
 unfoldable pub printed : Range → Row
-printed up-to-40 = row (plus 103121 4) (plus 0 0) (plus 0 0) (plus 0 0) (plus 0 0)
-printed up-to-150 = row (plus 14759936 6) (minus 21977388 8) (plus 32100769 10) (minus 120615002 13) (plus 57121808 16)
-printed up-to-500 = row (plus 66557899 7) (plus 15621077 8) (minus 86913643 11) (plus 18972274 13) (minus 14418461 16)
-printed above-500 = row (plus 144714861 7) (minus 7176787 10) (plus 18638538 13) (minus 5306547 16) (plus 46649305 21)
+printed up-to-40 = row (plus 103121 4 0) (plus 0 0 0) (plus 0 0 0) (plus 0 0 0) (plus 0 0 0)
+printed up-to-150 = row (plus 14759936 6 0) (minus 21977388 8 0) (plus 32100769 8 2) (minus 120615002 9 4) (plus 57121808 8 8)
+printed up-to-500 = row (plus 66557899 7 0) (plus 15621077 8 0) (minus 86913643 8 3) (plus 18972274 8 5) (minus 14418461 8 8)
+printed above-500 = row (plus 144714861 7 0) (minus 7176787 7 3) (plus 18638538 8 5) (minus 5306547 7 9) (plus 46649305 8 13)
 
 -- the double nearest to a decimal, a tie to the even one
 unfoldable pub nearestDouble : Decimal → Float
