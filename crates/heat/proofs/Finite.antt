@@ -33,7 +33,7 @@ small-bounded x t =
     let fits = leb (num x) (2 ^ 4 * den x) in
     record { is-finite = and-l (finite x) fits t; is-small = leb→le (num x) (2 ^ 4 * den x) (and-r (finite x) fits t) }
 
-pub record Small (row : Coefficients) : Type 0 where
+record Small (row : Coefficients) : Type 0 where
   pub a1-small : Bounded 4 (row .a1)
   pub a2-small : Bounded 4 (row .a2)
   pub a3-small : Bounded 4 (row .a3)
