@@ -1,0 +1,9 @@
+pub mod Digits
+pub mod Scans
+pub mod Texts
+pub mod Splits
+pub mod Meets
+pub mod Walks
+pub mod Answers
+pub mod Surveys
+pub mod Written

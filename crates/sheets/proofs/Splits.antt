@@ -1,0 +1,91 @@
+-- Where a line ends: the first byte 10 splits bytes into a line and the rest, and the text of a number or of two has no such byte. Assumes
+-- nothing.
+use mathlib.Core.Path.{_≡_, refl, sym, ap, _∙_}
+use mathlib.Core.Logic.{_⊎_, inl, inr}
+use mathlib.Core.Bool.{Bool, true, false}
+use mathlib.Core.List.{List, [], _∷_, _++_}
+use Prim.Native.Nat.{ℕ, zero, suc, _+_, _-_, _/_, _≤_, _<_}
+use native.Mathlib.Numerals.{add-one}
+use native.Mathlib.Omega.{arith}
+use lib.Dec.{eqb, ltb}
+use lib.ListN.{length, take, drop, length-append, length-drop}
+use lib.Seq.{take-length, take-append-seam, drop-drop, drop-append-add}
+use borrow.Author.Tests.{eqb-true, ne-eqb}
+use Rattle.sheets.specs.Grammar.{lineEnd, space, behind, digits, decimal, Pair, pairText}
+use Rattle.sheets.specs.Reading.{upTo, lineOf}
+
+-- no byte of it ends a line
+abbrev pub Endless : List ℕ → Type 0
+Endless [] = Unit {0}
+Endless (byte ∷ bytes) = (byte ≡ lineEnd → ⊥) × Endless bytes
+
+endless-append : (text more : List ℕ) → Endless text → Endless more → Endless (text ++ more)
+endless-append [] more first second = second
+endless-append (byte ∷ text) more first second = (first .0, endless-append text more (first .1) second)
+
+endless-digits : (places number : ℕ) → Endless (digits places number)
+unfolding digits
+endless-digits zero number = tt
+endless-digits (suc places) number = one-or-more (ltb number 10) (endless-digits places (number / 10))
+  where
+    one-or-more : (t : Bool) → Endless (digits places (number / 10)) → Endless (behind t number (digits places (number / 10)))
+    one-or-more true higher = (λ e. omega arith, tt)
+    one-or-more false higher = endless-append (digits places (number / 10)) _ higher (λ e. omega arith, tt)
+
+pub endless-decimal : (number : ℕ) → Endless (decimal number)
+unfolding decimal
+endless-decimal number = endless-digits 10 number
+
+pub endless-pair : (pair : Pair) → Endless (pairText pair)
+unfolding pairText
+endless-pair pair =
+    endless-append (decimal (pair .millikelvin)) (space ∷ decimal (pair .pascals)) (endless-decimal (pair .millikelvin)) (λ e. omega arith, endless-decimal (pair .pascals))
+
+pub line-of : (text rest : List ℕ) → Endless text → lineOf (text ++ (lineEnd ∷ rest)) ≡ text
+line-of [] rest endless = refl
+line-of (byte ∷ text) rest endless = rw (ne-eqb byte lineEnd (endless .0)) (ap (λ (l : List ℕ). byte ∷ l) (line-of text rest (endless .1)))
+
+-- so two lines with their ends, and what follows, are equal only part by part
+pub lines-apart : (text text′ rest rest′ : List ℕ) → Endless text → Endless text′ → text ++ (lineEnd ∷ rest) ≡ text′ ++ (lineEnd ∷ rest′) → text ≡ text′
+lines-apart text text′ rest rest′ endless endless′ same = sym (line-of text rest endless) ∙ ap lineOf same ∙ line-of text′ rest′ endless′
+
+pub record Splits (bytes line : List ℕ) : Type 0 where
+  pub rest : List ℕ
+  pub splits : bytes ≡ line ++ (lineEnd ∷ rest)
+
+-- a line's end is there, or all bytes are one line
+pub split : (bytes : List ℕ) → Splits bytes (lineOf bytes) ⊎ (bytes ≡ lineOf bytes)
+split [] = inr refl
+split (byte ∷ bytes) = end-or-not (eqb byte lineEnd) refl (split bytes)
+  where
+    end-or-not : (t : Bool) → eqb byte lineEnd ≡ t → Splits bytes (lineOf bytes) ⊎ (bytes ≡ lineOf bytes) → Splits (byte ∷ bytes) (upTo t byte (lineOf bytes)) ⊎ (byte ∷ bytes ≡ upTo t byte (lineOf bytes))
+    end-or-not true e later = inl (record { rest = bytes; splits = ap (λ (b : ℕ). b ∷ bytes) (eqb-true byte lineEnd e) })
+    end-or-not false e (inl later) = inl (record { rest = later .rest; splits = ap (λ (l : List ℕ). byte ∷ l) (later .splits) })
+    end-or-not false e (inr all) = inr (ap (λ (l : List ℕ). byte ∷ l) all)
+
+-- a line is the first part of the bytes that it is the line of
+pub take-line : (bytes : List ℕ) → take (length (lineOf bytes)) bytes ≡ lineOf bytes
+take-line bytes = ended-or-not (split bytes)
+  where
+    ended-or-not : Splits bytes (lineOf bytes) ⊎ (bytes ≡ lineOf bytes) → take (length (lineOf bytes)) bytes ≡ lineOf bytes
+    ended-or-not (inl found) = ap (take (length (lineOf bytes))) (found .splits) ∙ take-append-seam (lineOf bytes) (lineEnd ∷ found .rest)
+    ended-or-not (inr all) = ap (take (length (lineOf bytes))) all ∙ take-length (lineOf bytes)
+
+pub line-inside : (bytes : List ℕ) → length (lineOf bytes) ≤ length bytes
+line-inside bytes = ended-or-not (split bytes)
+  where
+    ended-or-not : Splits bytes (lineOf bytes) ⊎ (bytes ≡ lineOf bytes) → length (lineOf bytes) ≤ length bytes
+    ended-or-not (inl found) = omega (arith, ap length (found .splits) ∙ length-append (lineOf bytes) (lineEnd ∷ found .rest))
+    ended-or-not (inr all) = omega (arith, ap length all)
+
+module _ (bytes : List ℕ) (place : ℕ) (text rest : List ℕ) (splits : drop place bytes ≡ text ++ (lineEnd ∷ rest)) where
+  -- what follows a line
+  pub drop-behind : drop (place + suc (length text)) bytes ≡ rest
+  drop-behind =
+      sym (drop-drop (suc (length text)) place bytes)
+      ∙ ap (drop (suc (length text))) splits
+      ∙ ap (λ (n : ℕ). drop n (text ++ (lineEnd ∷ rest))) (sym (add-one (length text)))
+      ∙ drop-append-add text (lineEnd ∷ rest) 1
+
+  pub ends-inside : place + length text < length bytes
+  ends-inside = omega (arith, sym (length-drop place bytes) ∙ ap length splits ∙ length-append text (lineEnd ∷ rest))

@@ -1,0 +1,125 @@
+-- What comes next from a cursor, and how a reading goes on from there: it is determined, it always is, and each state line lies farther on in
+-- the sheet. Assumes nothing.
+use mathlib.Core.Path.{_≡_, refl, sym, ap, subst, _∙_}
+use mathlib.Core.List.{List, [], _∷_, _++_}
+use Prim.Native.Nat.{ℕ, zero, suc, _+_, _-_, _≤_, _<_}
+use native.Mathlib.Omega.{arith}
+use lib.ListN.{length, drop}
+use Rattle.sheets.specs.declared.cursors.State.{State}
+use Rattle.sheets.specs.declared.cursors.Cursor.{Cursor}
+use Rattle.sheets.specs.declared.cursors.Next.{Next}
+use Rattle.sheets.specs.declared.cursors.Next.the-variants as Next
+use Rattle.sheets.specs.declared.lines.Line.{Line}
+use Rattle.sheets.specs.declared.lines.Line.the-variants.{Count, Told}
+use Rattle.sheets.specs.Grammar.{sections, decimal, pairText}
+use Rattle.sheets.specs.Reading.{CountLine, StateLine, Here, Comes, behind-count, here, Reads}
+use Rattle.sheets.specs.Lines.{met}
+use Rattle.sheets.proofs.Splits.{ends-inside}
+use Rattle.sheets.proofs.Meets.{kind, count-met, here-met, Stands, met-stands}
+
+-- a refusal or the end, behind the last state line
+abbrev pub Ends : Next → Type 0
+Ends (Next.State state after) = ⊥
+Ends Next.Over = Unit {0}
+Ends (Next.Malformed place) = Unit {0}
+Ends Next.TooLong = Unit {0}
+
+abbrev IsCount : Line → Type 0
+IsCount (Count after) = Unit {0}
+IsCount (Told next) = ⊥
+
+abbrev countedTo : Cursor → Line → Cursor
+countedTo cursor (Count after) = after
+countedTo cursor (Told next) = cursor
+
+abbrev told : Line → Next
+told (Count after) = Next.Over
+told (Told next) = next
+
+abbrev stateOf : State → Next → State
+stateOf other (Next.State state after) = state
+stateOf other Next.Over = other
+stateOf other (Next.Malformed place) = other
+stateOf other Next.TooLong = other
+
+abbrev afterOf : Cursor → Next → Cursor
+afterOf other (Next.State state after) = after
+afterOf other Next.Over = other
+afterOf other (Next.Malformed place) = other
+afterOf other Next.TooLong = other
+
+module _ (bytes : List ℕ) where
+  pub count-determined : (cursor after after′ : Cursor) → CountLine bytes cursor after → CountLine bytes cursor after′ → after ≡ after′
+  count-determined cursor after after′ line line′ =
+      ap (countedTo cursor) (sym (count-met bytes cursor after line) ∙ count-met bytes cursor after′ line′)
+
+  count-not-here : (cursor after : Cursor) (next : Next) → CountLine bytes cursor after → Here bytes cursor next → ⊥
+  count-not-here cursor after next line other = subst IsCount (sym (count-met bytes cursor after line) ∙ here-met bytes cursor next other) tt
+
+  pub comes-determined : {cursor : Cursor} {next next′ : Next} → Comes bytes cursor next → Comes bytes cursor next′ → next ≡ next′
+  comes-determined {cursor} {next} {next′} (behind-count {after = after} line comes) (behind-count {after = after′} line′ comes′) =
+      comes-determined comes (subst (λ (c : Cursor). Comes bytes c next′) (count-determined cursor after′ after line′ line) comes′)
+  comes-determined {cursor} {next} {next′} (behind-count {after = after} line comes) (here other) = absurd (count-not-here cursor after next′ line other)
+  comes-determined {cursor} {next} {next′} (here one) (behind-count {after = after} line comes) = absurd (count-not-here cursor after next line one)
+  comes-determined {cursor} {next} {next′} (here one) (here other) = ap told (sym (here-met bytes cursor next one) ∙ here-met bytes cursor next′ other)
+
+  pub never-too-long : {cursor : Cursor} → Comes bytes cursor Next.TooLong → ⊥
+  never-too-long (behind-count line comes) = never-too-long comes
+  never-too-long (here none) = none
+
+  -- a line that stands moves the cursor on, within the sheet
+  pub record Moves (cursor after : Cursor) : Type 0 where
+    pub on : cursor .place < after .place
+    pub inside : after .place ≤ length bytes
+
+  count-moves : (cursor after : Cursor) → CountLine bytes cursor after → Moves cursor after
+  count-moves cursor after line =
+      let place = ap (λ (c : Cursor). c .place) (line .moves) in
+      let ends = ends-inside bytes (cursor .place) (decimal (line .count)) (line .begins .rest) (line .begins .splits) in
+      record { on = omega (arith, place); inside = omega (arith, place, ends) }
+
+  state-moves : (cursor : Cursor) (state : State) (after : Cursor) → StateLine bytes cursor state after → Moves cursor after
+  state-moves cursor state after line =
+      let place = ap (λ (c : Cursor). c .place) (line .moves) in
+      let ends = ends-inside bytes (cursor .place) (pairText (line .pair)) (line .begins .rest) (line .begins .splits) in
+      record { on = omega (arith, place); inside = omega (arith, place, ends) }
+
+  pub comes-moves : {cursor : Cursor} {state : State} {after : Cursor} → Comes bytes cursor (Next.State state after) → Moves cursor after
+  comes-moves {cursor} {state} {after} (behind-count {after = between} line comes) =
+      let first = count-moves cursor between line in
+      let second = comes-moves comes in
+      record { on = omega (arith, first .on, second .on); inside = second .inside }
+  comes-moves {cursor} {state} {after} (here line) = state-moves cursor state after line
+
+  -- a fault lies within the sheet, or at its end
+  pub fault-inside : {cursor : Cursor} {place : ℕ} → cursor .place ≤ length bytes → Comes bytes cursor (Next.Malformed place) → place ≤ length bytes
+  fault-inside {cursor} inside (behind-count {after = after} line comes) = fault-inside (count-moves cursor after line .inside) comes
+  fault-inside {cursor} inside (here fault) = omega (arith, fault .is-place)
+
+  pub reading-fault-inside : (cursor : Cursor) (states : List State) (place : ℕ) → cursor .place ≤ length bytes → Reads bytes cursor states (Next.Malformed place) → place ≤ length bytes
+  reading-fault-inside cursor [] place inside reads = fault-inside inside reads
+  reading-fault-inside cursor (state ∷ states) place inside reads =
+      reading-fault-inside (reads .0) states place (comes-moves (reads .1) .inside) (reads .2)
+
+  pub behind : (cursor after : Cursor) (states : List State) (last : Next) → CountLine bytes cursor after → Reads bytes after states last → Reads bytes cursor states last
+  behind cursor after [] last line reads = behind-count line reads
+  behind cursor after (state ∷ states) last line reads = (reads .0, behind-count line (reads .1), reads .2)
+
+  -- both readings of a sheet are one
+  pub record Same (states states′ : List State) (last last′ : Next) : Type 0 where
+    pub same-states : states ≡ states′
+    pub same-last : last ≡ last′
+
+  pub reads-determined : (cursor : Cursor) (states states′ : List State) (last last′ : Next) → Ends last → Ends last′ → Reads bytes cursor states last → Reads bytes cursor states′ last′ → Same states states′ last last′
+  reads-determined cursor [] [] last last′ ends ends′ reads reads′ = record { same-states = refl; same-last = comes-determined reads reads′ }
+  reads-determined cursor [] (state ∷ states′) last last′ ends ends′ reads reads′ = absurd (subst Ends (comes-determined reads (reads′ .1)) ends)
+  reads-determined cursor (state ∷ states) [] last last′ ends ends′ reads reads′ = absurd (subst Ends (comes-determined reads′ (reads .1)) ends′)
+  reads-determined cursor (state ∷ states) (state′ ∷ states′) last last′ ends ends′ reads reads′ =
+      let same = comes-determined (reads .1) (reads′ .1) in
+      let rest =
+      reads-determined (reads .0) states states′ last last′ ends ends′ (reads .2)
+      (subst (λ (c : Cursor). Reads bytes c states′ last′) (ap (afterOf cursor) (sym same)) (reads′ .2)) in
+      record {
+        same-states = ap (λ (s : State). s ∷ states) (ap (stateOf state) same) ∙ ap (λ (l : List State). state′ ∷ l) (rest .same-states);
+        same-last = rest .same-last;
+      }

@@ -1,0 +1,25 @@
+-- `sheets::lines::line_at` meets its contract: the line's end is inside the sheet or not, as the definition has it. Assumes nothing.
+use mathlib.Core.Path.{_∙_}
+use borrow.Author.Needs.{needs}
+use Rattle.sheets.proofs.Meets.{scan-ended, scan-unended}
+use Rattle.sheets.proofs.lines.line_at.Statement.{statement}
+use Rattle.sheets.proofs.lines.line_at.Tie as tie
+
+scan-requires : tie.Need-scan-requires
+scan-requires c κs = search needs
+
+ended-line-requires : tie.Need-ended-line-requires
+ended-line-requires c κs = search needs
+
+returns : tie.Need-returns
+returns c = c .ended-line .ensures ∙ scan-ended _ _ (c .before .before .scan .result) (c .before .before .scan .ensures) (c .before .if1 .taken)
+
+unended-line-requires : tie.Need-unended-line-requires
+unended-line-requires c κs = search needs
+
+returns-2 : tie.Need-returns-2
+returns-2 c = c .unended-line .ensures ∙ scan-unended _ _ (c .before .before .scan .result) (c .before .before .scan .ensures) (c .before .if1 .left)
+
+pub line-at-spec : {M : Type 1} → statement M
+line-at-spec =
+    tie.close (tie.spec scan-requires ended-line-requires returns unended-line-requires returns-2)

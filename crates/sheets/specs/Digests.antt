@@ -1,0 +1,41 @@
+-- What the private functions on digests compute. Nothing public is stated by this file.
+use mathlib.Core.Bool.{Bool, true, false, cond}
+use mathlib.Core.List.{List, foldl}
+use Prim.Native.Nat.{ℕ, _+_, _-_, _*_}
+use lib.Dec.{ltb, leb, eqb}
+use lib.ListN.{length}
+use Rattle.sheets.specs.declared.digests.Digest.{Digest}
+use Rattle.sheets.specs.declared.digests.Digest.the-variants.{Empty, First, AfterSpace, Second, Bad}
+use Rattle.sheets.specs.declared.digests.Number.{Number}
+use Rattle.sheets.specs.declared.digests.Number.the-variants.{Is, None}
+use Rattle.sheets.specs.declared.digests.Scanned.{Scanned}
+use Rattle.sheets.specs.Grammar.{space}
+use Rattle.sheets.specs.Reading.{lineOf}
+
+abbrev pub opens : (byte : ℕ) → Number
+opens byte = cond (ltb byte 48) None (cond (ltb 57 byte) None (Is (byte - 48)))
+
+abbrev pub behindDigits : (number : ℕ) → Number → Number
+behindDigits number None = None
+behindDigits number (Is digit) = Is (10 * number + digit)
+
+abbrev pub grows : (number byte : ℕ) → Number
+grows number byte = cond (eqb number 0) None (cond (leb 1000000000 number) None (behindDigits number (opens byte)))
+
+abbrev pub firstOf : Number → Digest
+firstOf None = Bad
+firstOf (Is number) = First number
+
+abbrev pub secondOf : (first : ℕ) → Number → Digest
+secondOf first None = Bad
+secondOf first (Is number) = Second first number
+
+abbrev pub takes : Digest → (byte : ℕ) → Digest
+takes Empty byte = firstOf (opens byte)
+takes (First number) byte = cond (eqb byte space) (AfterSpace number) (firstOf (grows number byte))
+takes (AfterSpace number) byte = secondOf number (opens byte)
+takes (Second first number) byte = secondOf first (grows number byte)
+takes Bad byte = Bad
+
+abbrev pub scans : (place : ℕ) → Digest → (bytes : List ℕ) → Scanned
+scans place before bytes = record { digest = foldl takes before (lineOf bytes); end = place + length (lineOf bytes) }

@@ -1,0 +1,31 @@
+-- What the whole pass over a sheet finds. Nothing public is stated by this file.
+use mathlib.Core.Path.{_≡_}
+use mathlib.Core.List.{List}
+use Prim.Native.Nat.{ℕ}
+use lib.ListN.{length, getD}
+use Rattle.sheets.specs.declared.cursors.State.{State}
+use Rattle.sheets.specs.declared.cursors.Next.{Next}
+use Rattle.sheets.specs.declared.cursors.Next.the-variants as Next
+use Rattle.sheets.specs.declared.replies.Reading.{Reading}
+use Rattle.sheets.specs.declared.replies.Reading.the-variants as Reading
+use Rattle.sheets.specs.declared.Found.{Found}
+use Rattle.sheets.specs.Reading.{start, Reads}
+use Rattle.sheets.specs.Replies.{Fits, FaultAt, TooLong}
+
+abbrev pub zeros : State
+zeros = record { fluid = 0; millikelvin = 0; pascals = 0 }
+
+pub record Counted (bytes : List ℕ) (k count : ℕ) (state : State) : Type 0 where
+  pub fits : Fits bytes
+  pub states : List State
+  pub reads : Reads bytes start states Next.Over
+  pub is-count : count ≡ length states
+  pub is-state : state ≡ getD states k zeros
+
+abbrev pub Finds : (bytes : List ℕ) (k : ℕ) → Reading → (state : State) → Type 0
+Finds bytes k (Reading.StateLines count) state = Counted bytes k count state
+Finds bytes k (Reading.Malformed place) state = FaultAt bytes place
+Finds bytes k Reading.TooLong state = TooLong bytes
+
+abbrev pub Surveys : (bytes : List ℕ) (k : ℕ) → Found → Type 0
+Surveys bytes k found = Finds bytes k (found .reading) (found .state)

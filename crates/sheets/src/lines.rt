@@ -1,0 +1,124 @@
+// One line of a sheet, read where a cursor stands.
+ghost use mathlib.Core.Path.{_≡_};
+ghost use Prim.Native.Nat.{_-_, _^_, _<_};
+ghost use Rattle.sheets.specs.Lines.{counted, stated, ended, unended, met};
+use crate::cursors::Cursor;
+use crate::cursors::Next;
+use crate::cursors::State;
+use crate::digests::Digest;
+use crate::digests::scan;
+
+// How many sections a sheet has: one a fluid, in the order of their numbers.
+const SECTIONS: u64 = 2;
+
+const MOST_STATES: u64 = 1_000;
+
+// A count line only moves the cursor; anything else is what comes next.
+pub(crate) enum Line {
+    Count(Cursor),
+    Told(Next),
+}
+
+// A line that is one number stands where a section may begin.
+fn count_line(cursor: Cursor, end: usize, count: u64) -> Line
+    requires { ⌜ end < 2 ^ 64 - 1 ⌝ }
+    ensures { λ r. ⌜ r ≡ counted cursor end count ⌝ }
+{
+    let begun = cursor.begun;
+    let left = cursor.left;
+    let place = cursor.place;
+    if left != 0 {
+        return Line::Told(Next::Malformed { place });
+    }
+    if SECTIONS <= begun {
+        return Line::Told(Next::Malformed { place });
+    }
+    if MOST_STATES < count {
+        return Line::Told(Next::Malformed { place });
+    }
+    Line::Count(Cursor {
+        begun: begun + 1,
+        left: count,
+        place: end + 1,
+    })
+}
+
+// A section's fluid is its number, from 0. No section has been left open before the first was begun.
+fn fluid_of(begun: u64) -> u64
+    ensures { λ r. ⌜ r ≡ begun - 1 ⌝ }
+{
+    if begun == 0 {
+        return 0;
+    }
+    begun - 1
+}
+
+// A line of two numbers stands where the section begun last lacks a state.
+fn state_line(cursor: Cursor, end: usize, millikelvin: u64, pascals: u64) -> Line
+    requires { ⌜ end < 2 ^ 64 - 1 ⌝ }
+    ensures { λ r. ⌜ r ≡ stated cursor end millikelvin pascals ⌝ }
+{
+    let begun = cursor.begun;
+    let left = cursor.left;
+    let place = cursor.place;
+    if left == 0 {
+        return Line::Told(Next::Malformed { place });
+    }
+    Line::Told(Next::State {
+        state: State {
+            fluid: fluid_of(begun),
+            millikelvin,
+            pascals,
+        },
+        after: Cursor {
+            begun,
+            left: left - 1,
+            place: end + 1,
+        },
+    })
+}
+
+fn ended_line(cursor: Cursor, end: usize, digest: Digest) -> Line
+    requires { ⌜ end < 2 ^ 64 - 1 ⌝ }
+    ensures { λ r. ⌜ r ≡ ended cursor end digest ⌝ }
+{
+    let place = cursor.place;
+    match digest {
+        Digest::First(count) => count_line(cursor, end, count),
+        Digest::Second { first, second } => state_line(cursor, end, first, second),
+        Digest::Empty => Line::Told(Next::Malformed { place }),
+        Digest::AfterSpace(_) => Line::Told(Next::Malformed { place }),
+        Digest::Bad => Line::Told(Next::Malformed { place }),
+    }
+}
+
+// Where there is no line's end any more, the sheet is over or a line lacks its end, or is missing.
+fn unended_line(cursor: Cursor, end: usize) -> Line
+    ensures { λ r. ⌜ r ≡ unended cursor end ⌝ }
+{
+    let begun = cursor.begun;
+    let left = cursor.left;
+    let place = cursor.place;
+    if place < end {
+        return Line::Told(Next::Malformed { place });
+    }
+    if left != 0 {
+        return Line::Told(Next::Malformed { place });
+    }
+    if begun < SECTIONS {
+        return Line::Told(Next::Malformed { place });
+    }
+    Line::Told(Next::Over)
+}
+
+pub(crate) fn line_at(sheet: &[u8], cursor: Cursor) -> Line
+    ensures { λ r. ⌜ r ≡ met (now (sheet .entry)) cursor ⌝ }
+{
+    let line = scan(sheet, cursor.place, Digest::Empty);
+    let digest = line.digest;
+    let end = line.end;
+    if end < sheet.len() {
+        return ended_line(cursor, end, digest);
+    }
+    unended_line(cursor, end)
+}
