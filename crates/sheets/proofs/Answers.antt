@@ -18,9 +18,9 @@ use Rattle.sheets.specs.declared.digests.Scanned.{Scanned}
 use Rattle.sheets.specs.Grammar.{statesFrom, sumOfCounts}
 use Rattle.sheets.specs.Reading.{start, Comes, lineOf}
 use Rattle.sheets.specs.Replies.{Fits, NextIs, GoodWith, FaultAt, ReadsAs, shownAt, shown, ShowsBack}
-use Rattle.sheets.specs.Digests.{scans}
+use Rattle.sheets.specs.Digests.{wholeLine, scans}
 use Rattle.sheets.specs.Inside.{zeros, Counted, Finds}
-use Rattle.sheets.proofs.Splits.{take-line, line-inside}
+use Rattle.sheets.proofs.Splits.{take-line, inside}
 use Rattle.sheets.proofs.Walks.{never-too-long, reading-fault-inside}
 use Rattle.sheets.proofs.Written.{Written, read-good, states-counted}
 
@@ -70,20 +70,35 @@ module _ (bytes : List ℕ) (k : ℕ) where
 pub fault-place : (bytes : List ℕ) (place : ℕ) → FaultAt bytes place → place ≤ length bytes
 fault-place bytes place fault = reading-fault-inside bytes start (fault .before) place (omega arith) (fault .reads)
 
--- the faulty line as a part: where it begins and where it ends, from the scan that found its end
+-- where a scan from the place of a fault ends, the line's text and the line, lies behind that place and within the sheet
+pub record Lies (bytes : List ℕ) (place : ℕ) (line : Scanned) : Type 0 where
+  pub text-behind : place ≤ line .end
+  pub text-within : line .end ≤ length bytes
+  pub line-behind : place ≤ line .next
+  pub line-within : line .next ≤ length bytes
+
 module _ (bytes : List ℕ) (place : ℕ) (line : Scanned) (is-scan : line ≡ scans place Empty (drop place bytes)) where
-  line-end : line .end ≡ place + length (lineOf (drop place bytes))
-  line-end = ap (λ (scanned : Scanned). scanned .end) is-scan
+  text-end : line .end ≡ place + length (lineOf (drop place bytes))
+  text-end = ap (λ (scanned : Scanned). scanned .end) is-scan
 
-  pub ends-behind : place ≤ line .end
-  ends-behind = omega (arith, line-end)
+  line-end : line .next ≡ place + wholeLine (drop place bytes)
+  line-end = ap (λ (scanned : Scanned). scanned .next) is-scan
 
-  pub ends-within : FaultAt bytes place → line .end ≤ length bytes
-  ends-within fault = omega (arith, line-end, fault-place bytes place fault, line-inside (drop place bytes), length-drop place bytes)
+  pub lies : FaultAt bytes place → Lies bytes place line
+  lies fault =
+      let within = fault-place bytes place fault in
+      let left = length-drop place bytes in
+      let parts = inside (drop place bytes) in
+      record {
+        text-behind = omega (arith, text-end);
+        text-within = omega (arith, text-end, within, left, parts .text-inside);
+        line-behind = omega (arith, line-end);
+        line-within = omega (arith, line-end, within, left, parts .end-inside);
+      }
 
   pub is-part : take (line .end - place) (drop place bytes) ≡ lineOf (drop place bytes)
   is-part =
-      let long : line .end - place ≡ length (lineOf (drop place bytes)) = omega (arith, line-end) in
+      let long : line .end - place ≡ length (lineOf (drop place bytes)) = omega (arith, text-end) in
       ap (λ (n : ℕ). take n (drop place bytes)) long ∙ take-line (drop place bytes)
 
 pub shows-back : (bytes : List ℕ) (sheet part : ℕ) (line : List ℕ) {told : Reading} (reading : Reading) → told ≡ reading → ReadsAs bytes told → part ≡ sheet + shownAt reading → line ≡ shown bytes reading → ShowsBack bytes sheet part line

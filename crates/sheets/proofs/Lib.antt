@@ -5,5 +5,11 @@ pub mod Splits
 pub mod Meets
 pub mod Walks
 pub mod Answers
+pub mod Passed
 pub mod Surveys
 pub mod Written
+pub mod Numerals
+pub mod Existence
+pub mod Once
+pub mod Determined
+pub mod Theorems

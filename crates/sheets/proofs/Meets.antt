@@ -1,14 +1,13 @@
 -- What `met` computes is what the reading defines: each line that may stand is met as such, and what is met as such may stand. Assumes nothing.
-use mathlib.Core.Path.{_≡_, refl, sym, ap, subst, _∙_}
+use mathlib.Core.Path.{_≡_, refl, sym, ap, ap₂, subst, _∙_}
 use mathlib.Core.Logic.{_⊎_, inl, inr}
 use mathlib.Core.Bool.{Bool, true, false, cond}
 use mathlib.Core.List.{List, [], _∷_, _++_, foldl}
 use Prim.Native.Nat.{ℕ, suc, _+_, _-_, _≤_, _<_}
-use native.Mathlib.Nat.{add-suc, suc-ne-zero}
-use native.Mathlib.Numerals.{add-one}
+use native.Mathlib.Nat.{suc-ne-zero}
 use native.Mathlib.Omega.{arith}
 use lib.Dec.{eqb, ltb, leb}
-use lib.ListN.{length, drop, length-drop}
+use lib.ListN.{length, drop}
 use borrow.Author.Tests.{eqb-true, eqb-false, ltb-true, ltb-false, leb-true, leb-false, eq-eqb, ne-eqb, lt-ltb, le-ltb, lt-leb, le-leb}
 use Rattle.sheets.specs.declared.cursors.State.{State}
 use Rattle.sheets.specs.declared.cursors.Cursor.{Cursor}
@@ -19,12 +18,12 @@ use Rattle.sheets.specs.declared.lines.Line.the-variants.{Count, Told}
 use Rattle.sheets.specs.declared.digests.Digest.{Digest}
 use Rattle.sheets.specs.declared.digests.Digest.the-variants.{Empty, First, AfterSpace, Second, Bad}
 use Rattle.sheets.specs.declared.digests.Scanned.{Scanned}
-use Rattle.sheets.specs.Grammar.{lineEnd, decimal, Writable, Pair, WritablePair, pairText}
+use Rattle.sheets.specs.Grammar.{sections, mostStates, decimal, Pair, pairText}
 use Rattle.sheets.specs.Reading.{Begins, CountLine, StateLine, IsOver, IsFault, Here, lineOf}
-use Rattle.sheets.specs.Digests.{takes, scans}
+use Rattle.sheets.specs.Digests.{takes, wholeLine, scans}
 use Rattle.sheets.specs.Lines.{faulty, counted, stated, ended, unended, behindScan, met}
-use Rattle.sheets.proofs.Texts.{Spells, Means, pair-means, digest-means, first-read, pair-read}
-use Rattle.sheets.proofs.Splits.{Endless, endless-decimal, endless-pair, line-of, Splits, split, ends-inside}
+use Rattle.sheets.proofs.Texts.{Spells, SpellsPair, Means, pair-means, digest-means, first-read, pair-read}
+use Rattle.sheets.proofs.Splits.{Endless, endless-decimal, endless-pair, line-of, whole-line, Ended, Unended, split}
 
 -- lines of different kinds are different
 abbrev pub kind : Line → ℕ
@@ -34,64 +33,66 @@ kind (Told Next.Over) = 2
 kind (Told (Next.Malformed place)) = 3
 kind (Told Next.TooLong) = 4
 
--- a line of this text, scanned from the cursor on
-abbrev scanned : (cursor : Cursor) (text : List ℕ) → Scanned
-scanned cursor text = record { digest = foldl takes Empty text; end = cursor .place + length text }
-
 module _ (bytes : List ℕ) (cursor : Cursor) where
-  -- a scan that stopped inside the sheet found a line's end
-  pub scan-ended : (line : Scanned) → line ≡ scans (cursor .place) Empty (drop (cursor .place) bytes) → line .end < length bytes → ended cursor (line .end) (line .digest) ≡ met bytes cursor
+  -- a scan whose line has its end
+  pub scan-ended : (line : Scanned) → line ≡ scans (cursor .place) Empty (drop (cursor .place) bytes) → line .end < line .next → ended cursor (line .next) (line .digest) ≡ met bytes cursor
   scan-ended line is-scan inside =
-      sym (ap (λ (t : Bool). cond t (ended cursor (line .end) (line .digest)) (unended cursor (line .end))) (lt-ltb (line .end) (length bytes) inside))
-      ∙ ap (behindScan bytes cursor) is-scan
+      sym (ap (λ (t : Bool). cond t (ended cursor (line .next) (line .digest)) (unended cursor (line .end))) (lt-ltb (line .end) (line .next) inside))
+      ∙ ap (behindScan cursor) is-scan
 
-  pub scan-unended : (line : Scanned) → line ≡ scans (cursor .place) Empty (drop (cursor .place) bytes) → length bytes ≤ line .end → unended cursor (line .end) ≡ met bytes cursor
+  pub scan-unended : (line : Scanned) → line ≡ scans (cursor .place) Empty (drop (cursor .place) bytes) → line .next ≤ line .end → unended cursor (line .end) ≡ met bytes cursor
   scan-unended line is-scan outside =
-      sym (ap (λ (t : Bool). cond t (ended cursor (line .end) (line .digest)) (unended cursor (line .end))) (le-ltb (line .end) (length bytes) outside))
-      ∙ ap (behindScan bytes cursor) is-scan
+      sym (ap (λ (t : Bool). cond t (ended cursor (line .next) (line .digest)) (unended cursor (line .end))) (le-ltb (line .end) (line .next) outside))
+      ∙ ap (behindScan cursor) is-scan
 
-  met-ended : (text : List ℕ) (begins : Begins bytes cursor text) → lineOf (drop (cursor .place) bytes) ≡ text → met bytes cursor ≡ ended cursor (cursor .place + length text) (foldl takes Empty text)
-  met-ended text begins is-line =
-      sym (scan-ended (scanned cursor text) (ap (scanned cursor) (sym is-line)) (ends-inside bytes (cursor .place) text (begins .rest) (begins .splits)))
+  met-line : (text : List ℕ) → Begins bytes cursor text → Endless text → met bytes cursor ≡ ended cursor (cursor .place + suc (length text)) (foldl takes Empty text)
+  met-line text begins endless =
+      sym
+      (scan-ended (record { digest = foldl takes Empty text; end = cursor .place + length text; next = cursor .place + suc (length text) })
+      (ap₂ (λ (l : List ℕ) (n : ℕ). record { digest = foldl takes Empty l; end = cursor .place + length l; next = cursor .place + n })
+      (sym (ap lineOf (begins .splits) ∙ line-of text (begins .rest) endless))
+      (sym (ap wholeLine (begins .splits) ∙ whole-line text (begins .rest) endless)))
+      (omega arith))
 
-  met-line : (text : List ℕ) → Begins bytes cursor text → Endless text → met bytes cursor ≡ ended cursor (cursor .place + length text) (foldl takes Empty text)
-  met-line text begins endless = met-ended text begins (ap lineOf (begins .splits) ∙ line-of text (begins .rest) endless)
-
-  met-unended : drop (cursor .place) bytes ≡ lineOf (drop (cursor .place) bytes) → met bytes cursor ≡ unended cursor (cursor .place + length (drop (cursor .place) bytes))
-  met-unended all =
-      sym (scan-unended (scanned cursor (drop (cursor .place) bytes)) (ap (scanned cursor) all) (omega (arith, length-drop (cursor .place) bytes)))
+  met-unended : (found : Unended (drop (cursor .place) bytes) (lineOf (drop (cursor .place) bytes)) (wholeLine (drop (cursor .place) bytes))) → met bytes cursor ≡ unended cursor (cursor .place + length (drop (cursor .place) bytes))
+  met-unended found =
+      sym
+      (scan-unended (record { digest = foldl takes Empty rest; end = cursor .place + length rest; next = cursor .place + length rest })
+      (ap₂ (λ (l : List ℕ) (n : ℕ). record { digest = foldl takes Empty l; end = cursor .place + length l; next = cursor .place + n }) (found .all) (sym (found .is-whole)))
+      (omega arith))
+    where
+      rest : List ℕ
+      rest = drop (cursor .place) bytes
 
   pub count-met : (after : Cursor) → CountLine bytes cursor after → met bytes cursor ≡ Count after
   count-met after line =
-      let end : ℕ = cursor .place + length (decimal (line .count)) in
-      let few : line .count ≤ 1000 = line .few in
+      let next : ℕ = cursor .place + suc (length (decimal (line .count))) in
+      let few : line .count ≤ mostStates = line .few in
       met-line (decimal (line .count)) (line .begins) (endless-decimal (line .count))
-      ∙ ap (ended cursor end) (first-read (line .count) (omega arith))
-      ∙ stands end
-      ∙ ap Count (ap (λ (p : ℕ). record { begun = cursor .begun + 1; left = line .count; place = p }) (add-one end ∙ sym (add-suc (cursor .place) (length (decimal (line .count)))))
-      ∙ ap (λ (b : ℕ). record { begun = b; left = line .count; place = cursor .place + suc (length (decimal (line .count))) }) (add-one (cursor .begun))
-      ∙ sym (line .moves))
+      ∙ ap (ended cursor next) (first-read (line .count) (omega arith))
+      ∙ stands next
+      ∙ ap Count (sym (line .moves))
     where
-      stands : (end : ℕ) → counted cursor end (line .count) ≡ Count (record { begun = cursor .begun + 1; left = line .count; place = end + 1 })
-      stands end = simp (eq-eqb (cursor .left) 0 (line .none-left), lt-leb 2 (cursor .begun) (line .wanted), le-ltb 1000 (line .count) (line .few))
+      stands : (next : ℕ) → counted cursor next (line .count) ≡ Count (record { begun = suc (cursor .begun); left = line .count; place = next })
+      stands next =
+          simp (eq-eqb (cursor .left) 0 (line .none-left), lt-leb sections (cursor .begun) (line .wanted), le-ltb mostStates (line .count) (line .few))
 
   pub state-met : (state : State) (after : Cursor) → StateLine bytes cursor state after → met bytes cursor ≡ Told (Next.State state after)
   state-met state after line =
-      let end : ℕ = cursor .place + length (pairText (line .pair)) in
+      let next : ℕ = cursor .place + suc (length (pairText (line .pair))) in
       met-line (pairText (line .pair)) (line .begins) (endless-pair (line .pair))
-      ∙ ap (ended cursor end) (pair-read (line .pair) (line .writable))
-      ∙ stands end
-      ∙ ap (λ (s : State). Told (Next.State s (record { begun = cursor .begun; left = cursor .left - 1; place = end + 1 }))) (sym (line .is-state))
-      ∙ ap (λ (p : ℕ). Told (Next.State state (record { begun = cursor .begun; left = cursor .left - 1; place = p }))) (add-one end ∙ sym (add-suc (cursor .place) (length (pairText (line .pair)))))
-      ∙ ap (λ (a : Cursor). Told (Next.State state a)) (sym (line .moves))
+      ∙ ap (ended cursor next) (pair-read (line .pair) (line .writable))
+      ∙ stands next
+      ∙ ap₂ (λ (s : State) (a : Cursor). Told (Next.State s a)) (sym (line .is-state)) (sym (line .moves))
     where
-      stands : (end : ℕ) → stated cursor end (line .pair .millikelvin) (line .pair .pascals) ≡ Told (Next.State (record { fluid = cursor .begun - 1; millikelvin = line .pair .millikelvin; pascals = line .pair .pascals }) (record { begun = cursor .begun; left = cursor .left - 1; place = end + 1 }))
-      stands end = let wanted : 0 < cursor .left = line .wanted in simp (ne-eqb (cursor .left) 0 (λ e. omega arith))
+      stands : (next : ℕ) → stated cursor next (line .pair .millikelvin) (line .pair .pascals) ≡ Told (Next.State (record { fluid = cursor .begun - 1; millikelvin = line .pair .millikelvin; pascals = line .pair .pascals }) (record { begun = cursor .begun; left = cursor .left - 1; place = next }))
+      stands next = let wanted : 0 < cursor .left = line .wanted in simp (ne-eqb (cursor .left) 0 (λ e. omega arith))
 
   pub over-met : IsOver bytes cursor → met bytes cursor ≡ Told Next.Over
   over-met over =
-      met-unended (over .nothing-follows ∙ ap lineOf (sym (over .nothing-follows)))
-      ∙ simp (le-ltb (cursor .place) (cursor .place + length (drop (cursor .place) bytes)) (omega (arith, ap length (over .nothing-follows))), eq-eqb (cursor .left) 0 (over .none-left), le-ltb (cursor .begun) 2 (over .none-wanted))
+      let nothing = over .nothing-follows in
+      met-unended (record { all = nothing ∙ sym (ap lineOf nothing); is-whole = ap wholeLine nothing ∙ sym (ap length nothing) })
+      ∙ simp (le-ltb (cursor .place) (cursor .place + length (drop (cursor .place) bytes)) (omega (arith, ap length nothing)), eq-eqb (cursor .left) 0 (over .none-left), le-ltb (cursor .begun) sections (over .none-wanted))
 
   -- so what is met as a fault is one
   fault : met bytes cursor ≡ faulty cursor → IsFault bytes cursor (cursor .place)
@@ -107,43 +108,47 @@ module _ (bytes : List ℕ) (cursor : Cursor) where
   Stands (Count after) = CountLine bytes cursor after
   Stands (Told next) = Here bytes cursor next
 
-  count-stands : (text : List ℕ) (count : ℕ) → Begins bytes cursor text → Spells text count → met bytes cursor ≡ counted cursor (cursor .place + length text) count → Stands (counted cursor (cursor .place + length text) count)
+  -- Each test that the code makes decides whether the line stands, in the code's order. `same` says what is met, whatever the test gives.
+  count-stands : (text : List ℕ) (count : ℕ) → Begins bytes cursor text → Spells text count → met bytes cursor ≡ counted cursor (cursor .place + suc (length text)) count → Stands (counted cursor (cursor .place + suc (length text)) count)
   count-stands text count begins spells is-met = left-or-not (eqb (cursor .left) 0) refl is-met
     where
       after : Cursor
-      after = record { begun = cursor .begun + 1; left = count; place = cursor .place + length text + 1 }
+      after = record { begun = suc (cursor .begun); left = count; place = cursor .place + suc (length text) }
 
-      few-or-not : (t : Bool) → ltb 1000 count ≡ t → cursor .left ≡ 0 → cursor .begun < 2 → met bytes cursor ≡ cond t (faulty cursor) (Count after) → Stands (cond t (faulty cursor) (Count after))
-      few-or-not true e none wanted same = fault same
-      few-or-not false e none wanted same =
+      few : Line
+      few = cond (ltb mostStates count) (faulty cursor) (Count after)
+
+      wanted : Line
+      wanted = cond (leb sections (cursor .begun)) (faulty cursor) few
+
+      few-or-not : (t : Bool) → ltb mostStates count ≡ t → cursor .left ≡ 0 → cursor .begun < sections → met bytes cursor ≡ cond t (faulty cursor) (Count after) → Stands (cond t (faulty cursor) (Count after))
+      few-or-not true e none begins-one same = fault same
+      few-or-not false e none begins-one same =
           record {
             count = count;
             begins = subst (Begins bytes cursor) (spells .is-text) begins;
             none-left = none;
-            wanted = wanted;
-            few = ltb-false 1000 count e;
-            moves =
-                ap (λ (b : ℕ). record { begun = b; left = count; place = cursor .place + length text + 1 }) (add-one (cursor .begun))
-                ∙ ap (λ (p : ℕ). record { begun = suc (cursor .begun); left = count; place = p }) (add-one (cursor .place + length text) ∙ sym (add-suc (cursor .place) (length text)))
-                ∙ ap (λ (l : List ℕ). record { begun = suc (cursor .begun); left = count; place = cursor .place + suc (length l) }) (spells .is-text);
+            wanted = begins-one;
+            few = ltb-false mostStates count e;
+            moves = ap (λ (l : List ℕ). record { begun = suc (cursor .begun); left = count; place = cursor .place + suc (length l) }) (spells .is-text);
           }
 
-      wanted-or-not : (t : Bool) → leb 2 (cursor .begun) ≡ t → cursor .left ≡ 0 → met bytes cursor ≡ cond t (faulty cursor) (cond (ltb 1000 count) (faulty cursor) (Count after)) → Stands (cond t (faulty cursor) (cond (ltb 1000 count) (faulty cursor) (Count after)))
+      wanted-or-not : (t : Bool) → leb sections (cursor .begun) ≡ t → cursor .left ≡ 0 → met bytes cursor ≡ cond t (faulty cursor) few → Stands (cond t (faulty cursor) few)
       wanted-or-not true e none same = fault same
-      wanted-or-not false e none same = few-or-not (ltb 1000 count) refl none (leb-false 2 (cursor .begun) e) same
+      wanted-or-not false e none same = few-or-not (ltb mostStates count) refl none (leb-false sections (cursor .begun) e) same
 
-      left-or-not : (t : Bool) → eqb (cursor .left) 0 ≡ t → met bytes cursor ≡ cond t (cond (leb 2 (cursor .begun)) (faulty cursor) (cond (ltb 1000 count) (faulty cursor) (Count after))) (faulty cursor) → Stands (cond t (cond (leb 2 (cursor .begun)) (faulty cursor) (cond (ltb 1000 count) (faulty cursor) (Count after))) (faulty cursor))
-      left-or-not true e same = wanted-or-not (leb 2 (cursor .begun)) refl (eqb-true (cursor .left) 0 e) same
+      left-or-not : (t : Bool) → eqb (cursor .left) 0 ≡ t → met bytes cursor ≡ cond t wanted (faulty cursor) → Stands (cond t wanted (faulty cursor))
+      left-or-not true e same = wanted-or-not (leb sections (cursor .begun)) refl (eqb-true (cursor .left) 0 e) same
       left-or-not false e same = fault same
 
-  state-stands : (text : List ℕ) (pair : Pair) → Begins bytes cursor text → WritablePair pair → text ≡ pairText pair → met bytes cursor ≡ stated cursor (cursor .place + length text) (pair .millikelvin) (pair .pascals) → Stands (stated cursor (cursor .place + length text) (pair .millikelvin) (pair .pascals))
-  state-stands text pair begins writable is-text is-met = left-or-not (eqb (cursor .left) 0) refl is-met
+  state-stands : (text : List ℕ) (pair : Pair) → Begins bytes cursor text → SpellsPair text pair → met bytes cursor ≡ stated cursor (cursor .place + suc (length text)) (pair .millikelvin) (pair .pascals) → Stands (stated cursor (cursor .place + suc (length text)) (pair .millikelvin) (pair .pascals))
+  state-stands text pair begins spells is-met = left-or-not (eqb (cursor .left) 0) refl is-met
     where
       state : State
       state = record { fluid = cursor .begun - 1; millikelvin = pair .millikelvin; pascals = pair .pascals }
 
       after : Cursor
-      after = record { begun = cursor .begun; left = cursor .left - 1; place = cursor .place + length text + 1 }
+      after = record { begun = cursor .begun; left = cursor .left - 1; place = cursor .place + suc (length text) }
 
       left-or-not : (t : Bool) → eqb (cursor .left) 0 ≡ t → met bytes cursor ≡ cond t (faulty cursor) (Told (Next.State state after)) → Stands (cond t (faulty cursor) (Told (Next.State state after)))
       left-or-not true e same = fault same
@@ -151,43 +156,45 @@ module _ (bytes : List ℕ) (cursor : Cursor) where
           let some-left = eqb-false (cursor .left) 0 e in
           record {
             pair = pair;
-            writable = writable;
-            begins = subst (Begins bytes cursor) is-text begins;
+            writable = spells .writable;
+            begins = subst (Begins bytes cursor) (spells .is-text) begins;
             wanted = omega arith;
             is-state = refl;
-            moves =
-                ap (λ (p : ℕ). record { begun = cursor .begun; left = cursor .left - 1; place = p }) (add-one (cursor .place + length text) ∙ sym (add-suc (cursor .place) (length text)))
-                ∙ ap (λ (l : List ℕ). record { begun = cursor .begun; left = cursor .left - 1; place = cursor .place + suc (length l) }) is-text;
+            moves = ap (λ (l : List ℕ). record { begun = cursor .begun; left = cursor .left - 1; place = cursor .place + suc (length l) }) (spells .is-text);
           }
 
-  ended-stands : (text : List ℕ) (digest : Digest) → Begins bytes cursor text → Means digest text → met bytes cursor ≡ ended cursor (cursor .place + length text) digest → Stands (ended cursor (cursor .place + length text) digest)
+  ended-stands : (text : List ℕ) (digest : Digest) → Begins bytes cursor text → Means digest text → met bytes cursor ≡ ended cursor (cursor .place + suc (length text)) digest → Stands (ended cursor (cursor .place + suc (length text)) digest)
   ended-stands text Empty begins means is-met = fault is-met
   ended-stands text (First count) begins means is-met = count-stands text count begins means is-met
   ended-stands text (AfterSpace number) begins means is-met = fault is-met
-  ended-stands text (Second first second) begins means is-met =
-      let spells = pair-means text first second means in
-      state-stands text (record { millikelvin = first; pascals = second }) begins (spells .writable) (spells .is-text) is-met
+  ended-stands text (Second first second) begins means is-met = state-stands text _ begins (pair-means text first second means) is-met
   ended-stands text Bad begins means is-met = fault is-met
 
-  unended-stands : drop (cursor .place) bytes ≡ lineOf (drop (cursor .place) bytes) → met bytes cursor ≡ unended cursor (cursor .place + length (drop (cursor .place) bytes)) → Stands (unended cursor (cursor .place + length (drop (cursor .place) bytes)))
-  unended-stands all is-met = more-or-not (ltb (cursor .place) end) refl is-met
+  unended-stands : met bytes cursor ≡ unended cursor (cursor .place + length (drop (cursor .place) bytes)) → Stands (unended cursor (cursor .place + length (drop (cursor .place) bytes)))
+  unended-stands is-met = more-or-not (ltb (cursor .place) end) refl is-met
     where
       end : ℕ
       end = cursor .place + length (drop (cursor .place) bytes)
 
-      wanted-or-not : (t : Bool) → ltb (cursor .begun) 2 ≡ t → drop (cursor .place) bytes ≡ [] → cursor .left ≡ 0 → met bytes cursor ≡ cond t (faulty cursor) (Told Next.Over) → Stands (cond t (faulty cursor) (Told Next.Over))
-      wanted-or-not true e nothing none same = fault same
-      wanted-or-not false e nothing none same = record { none-left = none; none-wanted = ltb-false (cursor .begun) 2 e; nothing-follows = nothing }
+      wanted : Line
+      wanted = cond (ltb (cursor .begun) sections) (faulty cursor) (Told Next.Over)
 
-      left-or-not : (t : Bool) → eqb (cursor .left) 0 ≡ t → drop (cursor .place) bytes ≡ [] → met bytes cursor ≡ cond t (cond (ltb (cursor .begun) 2) (faulty cursor) (Told Next.Over)) (faulty cursor) → Stands (cond t (cond (ltb (cursor .begun) 2) (faulty cursor) (Told Next.Over)) (faulty cursor))
-      left-or-not true e nothing same = wanted-or-not (ltb (cursor .begun) 2) refl nothing (eqb-true (cursor .left) 0 e) same
+      left : Line
+      left = cond (eqb (cursor .left) 0) wanted (faulty cursor)
+
+      wanted-or-not : (t : Bool) → ltb (cursor .begun) sections ≡ t → drop (cursor .place) bytes ≡ [] → cursor .left ≡ 0 → met bytes cursor ≡ cond t (faulty cursor) (Told Next.Over) → Stands (cond t (faulty cursor) (Told Next.Over))
+      wanted-or-not true e nothing none same = fault same
+      wanted-or-not false e nothing none same = record { none-left = none; none-wanted = ltb-false (cursor .begun) sections e; nothing-follows = nothing }
+
+      left-or-not : (t : Bool) → eqb (cursor .left) 0 ≡ t → drop (cursor .place) bytes ≡ [] → met bytes cursor ≡ cond t wanted (faulty cursor) → Stands (cond t wanted (faulty cursor))
+      left-or-not true e nothing same = wanted-or-not (ltb (cursor .begun) sections) refl nothing (eqb-true (cursor .left) 0 e) same
       left-or-not false e nothing same = fault same
 
       empty : (l : List ℕ) → length l ≡ 0 → l ≡ []
       empty [] none = refl
       empty (byte ∷ l) none = absurd (suc-ne-zero (length l) none)
 
-      more-or-not : (t : Bool) → ltb (cursor .place) end ≡ t → met bytes cursor ≡ cond t (faulty cursor) (cond (eqb (cursor .left) 0) (cond (ltb (cursor .begun) 2) (faulty cursor) (Told Next.Over)) (faulty cursor)) → Stands (cond t (faulty cursor) (cond (eqb (cursor .left) 0) (cond (ltb (cursor .begun) 2) (faulty cursor) (Told Next.Over)) (faulty cursor)))
+      more-or-not : (t : Bool) → ltb (cursor .place) end ≡ t → met bytes cursor ≡ cond t (faulty cursor) left → Stands (cond t (faulty cursor) left)
       more-or-not true e same = fault same
       more-or-not false e same =
           let none-more : end ≤ cursor .place = ltb-false (cursor .place) end e in
@@ -199,12 +206,12 @@ module _ (bytes : List ℕ) (cursor : Cursor) where
       text : List ℕ
       text = lineOf (drop (cursor .place) bytes)
 
-      ended-or-not : Splits (drop (cursor .place) bytes) text ⊎ (drop (cursor .place) bytes ≡ text) → Stands (met bytes cursor)
+      ended-or-not : Ended (drop (cursor .place) bytes) text ⊎ Unended (drop (cursor .place) bytes) text (wholeLine (drop (cursor .place) bytes)) → Stands (met bytes cursor)
       ended-or-not (inl found) =
           let begins : Begins bytes cursor text = record { rest = found .rest; splits = found .splits } in
-          let is-met = met-ended text begins refl in
+          let is-met = met-line text begins (found .endless) in
           subst Stands (sym is-met) (ended-stands text (foldl takes Empty text) begins (digest-means text) is-met)
-      ended-or-not (inr all) = subst Stands (sym (met-unended all)) (unended-stands all (met-unended all))
+      ended-or-not (inr found) = subst Stands (sym (met-unended found)) (unended-stands (met-unended found))
 
   pub stands-as : (line : Line) → line ≡ met bytes cursor → Stands line
   stands-as line is-met = subst Stands (sym is-met) met-stands

@@ -14,14 +14,14 @@ use Rattle.sheets.specs.Grammar.{lineEnd}
 use Rattle.sheets.specs.Reading.{upTo, lineOf}
 use Rattle.sheets.specs.Digests.{takes, scans}
 
-abbrev pub stopped : (place : ℕ) → Digest → Scanned
-stopped place digest = record { digest = digest; end = place }
+abbrev pub stopped : (place next : ℕ) → Digest → Scanned
+stopped place next digest = record { digest = digest; end = place; next = next }
 
 module _ (bytes : List ℕ) (place : ℕ) (digest : Digest) where
-  pub at-end : length bytes ≤ place → scans place digest (drop place bytes) ≡ stopped place digest
+  pub at-end : length bytes ≤ place → scans place digest (drop place bytes) ≡ stopped place place digest
   at-end past = simp (drop-of-length-le bytes past, add-zero)
 
-  pub at-line-end : place < length bytes → getD bytes place 0 ≡ lineEnd → scans place digest (drop place bytes) ≡ stopped place digest
+  pub at-line-end : place < length bytes → getD bytes place 0 ≡ lineEnd → scans place digest (drop place bytes) ≡ stopped place (place + 1) digest
   at-line-end inside is-end = simp (drop-cons bytes place 0 inside, eq-eqb (getD bytes place 0) lineEnd is-end, add-zero)
 
   pub goes-on : place < length bytes → (getD bytes place 0 ≡ lineEnd → ⊥) → scans place digest (drop place bytes) ≡ scans (suc place) (takes digest (getD bytes place 0)) (drop (suc place) bytes)

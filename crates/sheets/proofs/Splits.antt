@@ -10,9 +10,10 @@ use native.Mathlib.Omega.{arith}
 use lib.Dec.{eqb, ltb}
 use lib.ListN.{length, take, drop, length-append, length-drop}
 use lib.Seq.{take-length, take-append-seam, drop-drop, drop-append-add}
-use borrow.Author.Tests.{eqb-true, ne-eqb}
+use borrow.Author.Tests.{eqb-true, eqb-false, ne-eqb}
 use Rattle.sheets.specs.Grammar.{lineEnd, space, behind, digits, decimal, Pair, pairText}
 use Rattle.sheets.specs.Reading.{upTo, lineOf}
+use Rattle.sheets.specs.Digests.{orLater, wholeLine}
 
 -- no byte of it ends a line
 abbrev pub Endless : List ℕ → Type 0
@@ -49,34 +50,53 @@ line-of (byte ∷ text) rest endless = rw (ne-eqb byte lineEnd (endless .0)) (ap
 pub lines-apart : (text text′ rest rest′ : List ℕ) → Endless text → Endless text′ → text ++ (lineEnd ∷ rest) ≡ text′ ++ (lineEnd ∷ rest′) → text ≡ text′
 lines-apart text text′ rest rest′ endless endless′ same = sym (line-of text rest endless) ∙ ap lineOf same ∙ line-of text′ rest′ endless′
 
-pub record Splits (bytes line : List ℕ) : Type 0 where
+pub whole-line : (text rest : List ℕ) → Endless text → wholeLine (text ++ (lineEnd ∷ rest)) ≡ suc (length text)
+whole-line [] rest endless = refl
+whole-line (byte ∷ text) rest endless = rw (ne-eqb byte lineEnd (endless .0)) (ap suc (whole-line text rest (endless .1)))
+
+-- a line's end is there
+pub record Ended (bytes line : List ℕ) : Type 0 where
   pub rest : List ℕ
   pub splits : bytes ≡ line ++ (lineEnd ∷ rest)
+  pub endless : Endless line
 
--- a line's end is there, or all bytes are one line
-pub split : (bytes : List ℕ) → Splits bytes (lineOf bytes) ⊎ (bytes ≡ lineOf bytes)
-split [] = inr refl
+-- all bytes are one line, and it has no end
+pub record Unended (bytes line : List ℕ) (whole : ℕ) : Type 0 where
+  pub all : bytes ≡ line
+  pub is-whole : whole ≡ length bytes
+
+pub split : (bytes : List ℕ) → Ended bytes (lineOf bytes) ⊎ Unended bytes (lineOf bytes) (wholeLine bytes)
+split [] = inr (record { all = refl; is-whole = refl })
 split (byte ∷ bytes) = end-or-not (eqb byte lineEnd) refl (split bytes)
   where
-    end-or-not : (t : Bool) → eqb byte lineEnd ≡ t → Splits bytes (lineOf bytes) ⊎ (bytes ≡ lineOf bytes) → Splits (byte ∷ bytes) (upTo t byte (lineOf bytes)) ⊎ (byte ∷ bytes ≡ upTo t byte (lineOf bytes))
-    end-or-not true e later = inl (record { rest = bytes; splits = ap (λ (b : ℕ). b ∷ bytes) (eqb-true byte lineEnd e) })
-    end-or-not false e (inl later) = inl (record { rest = later .rest; splits = ap (λ (l : List ℕ). byte ∷ l) (later .splits) })
-    end-or-not false e (inr all) = inr (ap (λ (l : List ℕ). byte ∷ l) all)
+    end-or-not : (t : Bool) → eqb byte lineEnd ≡ t → Ended bytes (lineOf bytes) ⊎ Unended bytes (lineOf bytes) (wholeLine bytes) → Ended (byte ∷ bytes) (upTo t byte (lineOf bytes)) ⊎ Unended (byte ∷ bytes) (upTo t byte (lineOf bytes)) (orLater t (wholeLine bytes))
+    end-or-not true e later = inl (record { rest = bytes; splits = ap (λ (b : ℕ). b ∷ bytes) (eqb-true byte lineEnd e); endless = tt })
+    end-or-not false e (inl later) =
+        inl (record { rest = later .rest; splits = ap (λ (l : List ℕ). byte ∷ l) (later .splits); endless = (eqb-false byte lineEnd e, later .endless) })
+    end-or-not false e (inr later) = inr (record { all = ap (λ (l : List ℕ). byte ∷ l) (later .all); is-whole = ap suc (later .is-whole) })
 
 -- a line is the first part of the bytes that it is the line of
 pub take-line : (bytes : List ℕ) → take (length (lineOf bytes)) bytes ≡ lineOf bytes
 take-line bytes = ended-or-not (split bytes)
   where
-    ended-or-not : Splits bytes (lineOf bytes) ⊎ (bytes ≡ lineOf bytes) → take (length (lineOf bytes)) bytes ≡ lineOf bytes
+    ended-or-not : Ended bytes (lineOf bytes) ⊎ Unended bytes (lineOf bytes) (wholeLine bytes) → take (length (lineOf bytes)) bytes ≡ lineOf bytes
     ended-or-not (inl found) = ap (take (length (lineOf bytes))) (found .splits) ∙ take-append-seam (lineOf bytes) (lineEnd ∷ found .rest)
-    ended-or-not (inr all) = ap (take (length (lineOf bytes))) all ∙ take-length (lineOf bytes)
+    ended-or-not (inr found) = ap (take (length (lineOf bytes))) (found .all) ∙ take-length (lineOf bytes)
 
-pub line-inside : (bytes : List ℕ) → length (lineOf bytes) ≤ length bytes
-line-inside bytes = ended-or-not (split bytes)
+-- the line, and its end if that is there, are within the bytes
+pub record Inside (bytes : List ℕ) : Type 0 where
+  pub text-inside : length (lineOf bytes) ≤ length bytes
+  pub end-inside : wholeLine bytes ≤ length bytes
+
+pub inside : (bytes : List ℕ) → Inside bytes
+inside bytes = ended-or-not (split bytes)
   where
-    ended-or-not : Splits bytes (lineOf bytes) ⊎ (bytes ≡ lineOf bytes) → length (lineOf bytes) ≤ length bytes
-    ended-or-not (inl found) = omega (arith, ap length (found .splits) ∙ length-append (lineOf bytes) (lineEnd ∷ found .rest))
-    ended-or-not (inr all) = omega (arith, ap length all)
+    ended-or-not : Ended bytes (lineOf bytes) ⊎ Unended bytes (lineOf bytes) (wholeLine bytes) → Inside bytes
+    ended-or-not (inl found) =
+        let long = ap length (found .splits) ∙ length-append (lineOf bytes) (lineEnd ∷ found .rest) in
+        let whole = ap wholeLine (found .splits) ∙ whole-line (lineOf bytes) (found .rest) (found .endless) in
+        record { text-inside = omega (arith, long); end-inside = omega (arith, long, whole) }
+    ended-or-not (inr found) = record { text-inside = omega (arith, ap length (found .all)); end-inside = omega (arith, found .is-whole) }
 
 module _ (bytes : List ℕ) (place : ℕ) (text rest : List ℕ) (splits : drop place bytes ≡ text ++ (lineEnd ∷ rest)) where
   -- what follows a line

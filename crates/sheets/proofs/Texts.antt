@@ -41,7 +41,8 @@ unfolding pairText
 pair-means text first second means =
     record { writable = record { temperature = means .1 .writable; pressure = means .0 }; is-text = means .1 .is-text }
 
--- a number read so far is the text's end, behind what came before it; the digest is made of it by `Holds`
+-- What holds of the digest that is made of a number, if it holds where there is none and where there is one: a number's first digit, and its
+-- next.
 module _ (byte : ℕ) where
   opened : (read : Number) → Told read byte → (Holds : Digest → Type 0) → (put : Number → Digest) → Holds (put None) → ((number : ℕ) → Writable number → byte ∷ [] ≡ decimal number → Holds (put (Is number))) → Holds (put read)
   opened None told Holds put bad good = bad
@@ -108,12 +109,33 @@ means-all (byte ∷ bytes) before digest means =
 pub digest-means : (text : List ℕ) → Means (foldl takes Empty text) text
 digest-means text = means-all text [] Empty refl
 
--- the other way: a place where a number is read, at the start of a line or behind its space
-pub record Reader (begin : Digest) (holds : ℕ → Digest) : Type 0 where
-  pub opens-to : (value : ℕ) → value < 10 → takes begin (digit value) ≡ holds value
-  pub grows-to : (number value : ℕ) → 0 < number → number < 1000000000 → value < 10 → takes (holds number) (digit value) ≡ holds (10 * number + value)
+-- the other way: whatever reads a number from some beginning, digit by digit, holds the number behind its decimal
+pub record Reader {D : Type 0} (step : D → ℕ → D) (begin : D) (holds : ℕ → D) : Type 0 where
+  pub opens-to : (value : ℕ) → value < 10 → step begin (digit value) ≡ holds value
+  pub grows-to : (number value : ℕ) → 0 < number → number < 1000000000 → value < 10 → step (holds number) (digit value) ≡ holds (10 * number + value)
 
-pub first-reader : Reader Empty First
+module _ {D : Type 0} {step : D → ℕ → D} {begin : D} {holds : ℕ → D} (reader : Reader step begin holds) where
+  digits-read : (places number : ℕ) → number < 10 * room places → 10 * room places ≤ 10000000000 → foldl step begin (digits (suc places) number) ≡ holds number
+  unfolding digits
+  digits-read zero number below few = rw (lt-ltb number 10 below) (reader .opens-to number below)
+  digits-read (suc places) number below few = one-or-more (ltb number 10) refl (digits-read places (number / 10))
+    where
+      one-or-more : (t : Bool) → ltb number 10 ≡ t → (number / 10 < 10 * room places → 10 * room places ≤ 10000000000 → foldl step begin (digits (suc places) (number / 10)) ≡ holds (number / 10)) → foldl step begin (behind t number (digits (suc places) (number / 10))) ≡ holds number
+      one-or-more true e tenth = reader .opens-to number (ltb-true number 10 e)
+      one-or-more false e tenth =
+          let many : 10 ≤ number = ltb-false number 10 e in
+          let whole : 10 * (number / 10) + number % 10 ≡ number = omega arith in
+          foldl-append step begin (digits (suc places) (number / 10)) (digit (number % 10) ∷ [])
+          ∙ ap (λ (d : D). step d (digit (number % 10))) (tenth (omega arith) (omega arith))
+          ∙ reader .grows-to (number / 10) (number % 10) (omega arith) (omega arith) (omega arith)
+          ∙ ap holds whole
+
+  pub decimal-read : (number : ℕ) → Writable number → foldl step begin (decimal number) ≡ holds number
+  unfolding decimal
+  decimal-read number writable = digits-read 9 number writable (omega arith)
+
+-- a line's first number, and the one behind its space
+first-reader : Reader takes Empty First
 first-reader =
     record {
       opens-to = λ value small. ap firstOf (opens-digit value small);
@@ -121,32 +143,12 @@ first-reader =
           simp (ne-eqb (digit value) space (λ e. omega arith), grows-digit number value positive has-room small);
     }
 
-pub second-reader : (first : ℕ) → Reader (AfterSpace first) (Second first)
+second-reader : (first : ℕ) → Reader takes (AfterSpace first) (Second first)
 second-reader first =
     record {
       opens-to = λ value small. ap (secondOf first) (opens-digit value small);
       grows-to = λ number value positive has-room small. ap (secondOf first) (grows-digit number value positive has-room small);
     }
-
-module _ {begin : Digest} {holds : ℕ → Digest} (reader : Reader begin holds) where
-  digits-read : (places number : ℕ) → number < 10 * room places → 10 * room places ≤ 10000000000 → foldl takes begin (digits (suc places) number) ≡ holds number
-  unfolding digits
-  digits-read zero number below few = rw (lt-ltb number 10 below) (reader .opens-to number below)
-  digits-read (suc places) number below few = one-or-more (ltb number 10) refl (digits-read places (number / 10))
-    where
-      one-or-more : (t : Bool) → ltb number 10 ≡ t → (number / 10 < 10 * room places → 10 * room places ≤ 10000000000 → foldl takes begin (digits (suc places) (number / 10)) ≡ holds (number / 10)) → foldl takes begin (behind t number (digits (suc places) (number / 10))) ≡ holds number
-      one-or-more true e tenth = reader .opens-to number (ltb-true number 10 e)
-      one-or-more false e tenth =
-          let many : 10 ≤ number = ltb-false number 10 e in
-          let whole : 10 * (number / 10) + number % 10 ≡ number = omega arith in
-          foldl-append takes begin (digits (suc places) (number / 10)) (digit (number % 10) ∷ [])
-          ∙ ap (λ (d : Digest). takes d (digit (number % 10))) (tenth (omega arith) (omega arith))
-          ∙ reader .grows-to (number / 10) (number % 10) (omega arith) (omega arith) (omega arith)
-          ∙ ap holds whole
-
-  pub decimal-read : (number : ℕ) → Writable number → foldl takes begin (decimal number) ≡ holds number
-  unfolding decimal
-  decimal-read number writable = digits-read 9 number writable (omega arith)
 
 pub first-read : (number : ℕ) → Writable number → foldl takes Empty (decimal number) ≡ First number
 first-read = decimal-read first-reader

@@ -67,6 +67,10 @@ module _ (bytes : List ℕ) where
   never-too-long (behind-count line comes) = never-too-long comes
   never-too-long (here none) = none
 
+  pub reads-never-too-long : (cursor : Cursor) (states : List State) → Reads bytes cursor states Next.TooLong → ⊥
+  reads-never-too-long cursor [] reads = never-too-long reads
+  reads-never-too-long cursor (state ∷ states) reads = reads-never-too-long (reads .0) states (reads .2)
+
   -- a line that stands moves the cursor on, within the sheet
   pub record Moves (cursor after : Cursor) : Type 0 where
     pub on : cursor .place < after .place

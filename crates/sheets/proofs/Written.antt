@@ -11,7 +11,7 @@ use Rattle.sheets.specs.declared.cursors.State.{State}
 use Rattle.sheets.specs.declared.cursors.Cursor.{Cursor}
 use Rattle.sheets.specs.declared.cursors.Next.{Next}
 use Rattle.sheets.specs.declared.cursors.Next.the-variants as Next
-use Rattle.sheets.specs.Grammar.{sections, lineEnd, decimal, Pair, pairText, line, stateLines, section, sheet, EachWritable, WritableSection, EachSection, Good, ofFluid, statesFrom, sumOfCounts}
+use Rattle.sheets.specs.Grammar.{sections, mostStates, lineEnd, decimal, Pair, pairText, line, stateLines, section, sheet, EachWritable, WritableSection, EachSection, Good, ofFluid, statesFrom, sumOfCounts}
 use Rattle.sheets.specs.Reading.{start, CountLine, StateLine, IsOver, Comes, behind-count, here, Reads}
 use Rattle.sheets.proofs.Splits.{drop-behind}
 use Rattle.sheets.proofs.Walks.{behind}
@@ -54,10 +54,10 @@ module _ (bytes : List ℕ) where
     where
       from-moved : Lists bytes (record { begun = suc (cursor .begun); left = line .count; place = cursor .place + suc (length (decimal (line .count))) }) states → Lists bytes cursor states
       from-moved later =
-          let wanted : cursor .begun < 2 = line .wanted in
+          let wanted : cursor .begun < sections = line .wanted in
           let same : length (later .pairs) ≡ line .count = later .are-left in
           let back : suc (cursor .begun) - 1 ≡ cursor .begun = omega arith in
-          let few : line .count ≤ 1000 = line .few in
+          let few : line .count ≤ mostStates = line .few in
           record {
             pairs = [];
             lists = later .pairs ∷ later .lists;

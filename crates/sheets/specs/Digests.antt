@@ -1,7 +1,7 @@
 -- What the private functions on digests compute. Nothing public is stated by this file.
 use mathlib.Core.Bool.{Bool, true, false, cond}
-use mathlib.Core.List.{List, foldl}
-use Prim.Native.Nat.{ℕ, _+_, _-_, _*_}
+use mathlib.Core.List.{List, [], _∷_, foldl}
+use Prim.Native.Nat.{ℕ, suc, _+_, _-_, _*_}
 use lib.Dec.{ltb, leb, eqb}
 use lib.ListN.{length}
 use Rattle.sheets.specs.declared.digests.Digest.{Digest}
@@ -9,7 +9,7 @@ use Rattle.sheets.specs.declared.digests.Digest.the-variants.{Empty, Fir
 use Rattle.sheets.specs.declared.digests.Number.{Number}
 use Rattle.sheets.specs.declared.digests.Number.the-variants.{Is, None}
 use Rattle.sheets.specs.declared.digests.Scanned.{Scanned}
-use Rattle.sheets.specs.Grammar.{space}
+use Rattle.sheets.specs.Grammar.{lineEnd, space}
 use Rattle.sheets.specs.Reading.{lineOf}
 
 abbrev pub opens : (byte : ℕ) → Number
@@ -37,5 +37,15 @@ takes (AfterSpace number) byte = secondOf number (opens byte)
 takes (Second first number) byte = secondOf first (grows number byte)
 takes Bad byte = Bad
 
+abbrev pub orLater : Bool → ℕ → ℕ
+orLater true later = 1
+orLater false later = suc later
+
+-- how many bytes the first line has, with its end if that is there
+abbrev pub wholeLine : List ℕ → ℕ
+wholeLine [] = 0
+wholeLine (byte ∷ bytes) = orLater (eqb byte lineEnd) (wholeLine bytes)
+
 abbrev pub scans : (place : ℕ) → Digest → (bytes : List ℕ) → Scanned
-scans place before bytes = record { digest = foldl takes before (lineOf bytes); end = place + length (lineOf bytes) }
+scans place before bytes =
+    record { digest = foldl takes before (lineOf bytes); end = place + length (lineOf bytes); next = place + wholeLine bytes }

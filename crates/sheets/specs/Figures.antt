@@ -3,8 +3,8 @@ use Prim.Native.Nat.{ℕ}
 use Rattle.sheets.specs.declared.cursors.State.{State}
 use Rattle.sheets.specs.declared.replies.Reading.{Reading}
 use Rattle.sheets.specs.declared.replies.Reading.the-variants as Reading
-use Rattle.sheets.specs.declared.replies.Asked.{Asked}
-use Rattle.sheets.specs.declared.replies.Asked.the-variants as Asked
+use Rattle.sheets.specs.declared.replies.LineReading.{LineReading}
+use Rattle.sheets.specs.declared.replies.LineReading.the-variants as LineReading
 use Rattle.sheets.specs.declared.replies.SheetFigures.{SheetFigures}
 use Rattle.sheets.specs.declared.replies.LineFigures.{LineFigures}
 
@@ -16,9 +16,9 @@ sheetFigures Reading.TooLong = record { number = 7; «state_lines» = 0; place =
 abbrev pub refusedWith : (number place : ℕ) → LineFigures
 refusedWith number place = record { number = number; fluid = 0; millikelvin = 0; pascals = 0; place = place }
 
-abbrev pub lineFigures : Asked → LineFigures
-lineFigures (Asked.State state) =
+abbrev pub lineFigures : LineReading → LineFigures
+lineFigures (LineReading.State state) =
     record { number = 0; fluid = state .fluid; millikelvin = state .millikelvin; pascals = state .pascals; place = 0 }
-lineFigures Asked.NoSuchLine = refusedWith 16 0
-lineFigures (Asked.Malformed place) = refusedWith 6 place
-lineFigures Asked.TooLong = refusedWith 7 0
+lineFigures LineReading.NoSuchLine = refusedWith 16 0
+lineFigures (LineReading.Malformed place) = refusedWith 6 place
+lineFigures LineReading.TooLong = refusedWith 7 0

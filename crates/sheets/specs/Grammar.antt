@@ -11,6 +11,9 @@ use Rattle.sheets.specs.declared.cursors.State.{State}
 abbrev pub sections : ℕ
 sections = 2
 
+abbrev pub mostStates : ℕ
+mostStates = 1000
+
 abbrev pub lineEnd : ℕ
 lineEnd = 10
 
@@ -71,7 +74,7 @@ EachWritable [] = Unit {0}
 EachWritable (pair ∷ pairs) = WritablePair pair × EachWritable pairs
 
 pub record WritableSection (pairs : List Pair) : Type 0 where
-  pub count : length pairs ≤ 1000
+  pub count : length pairs ≤ mostStates
   pub states : EachWritable pairs
 
 abbrev pub EachSection : List (List Pair) → Type 0

@@ -1,9 +1,9 @@
 -- What the private functions on lines compute. Nothing public is stated by this file.
 use mathlib.Core.Bool.{cond}
 use mathlib.Core.List.{List}
-use Prim.Native.Nat.{ℕ, _+_, _-_}
+use Prim.Native.Nat.{ℕ, suc, _-_}
 use lib.Dec.{ltb, leb, eqb}
-use lib.ListN.{length, drop}
+use lib.ListN.{drop}
 use Rattle.sheets.specs.declared.cursors.Cursor.{Cursor}
 use Rattle.sheets.specs.declared.cursors.Next.{Next}
 use Rattle.sheets.specs.declared.cursors.Next.the-variants as Next
@@ -12,45 +12,45 @@ use Rattle.sheets.specs.declared.lines.Line.the-variants.{Count, Told}
 use Rattle.sheets.specs.declared.digests.Digest.{Digest}
 use Rattle.sheets.specs.declared.digests.Digest.the-variants.{Empty, First, AfterSpace, Second, Bad}
 use Rattle.sheets.specs.declared.digests.Scanned.{Scanned}
+use Rattle.sheets.specs.Grammar.{sections, mostStates}
 use Rattle.sheets.specs.Digests.{scans}
 
 abbrev pub faulty : Cursor → Line
 faulty cursor = Told (Next.Malformed (cursor .place))
 
-abbrev pub counted : Cursor → (end count : ℕ) → Line
-counted cursor end count =
+abbrev pub counted : Cursor → (next count : ℕ) → Line
+counted cursor next count =
     cond (eqb (cursor .left) 0)
-    (cond (leb 2 (cursor .begun))
+    (cond (leb sections (cursor .begun))
     (faulty cursor)
-    (cond (ltb 1000 count)
+    (cond (ltb mostStates count)
     (faulty cursor)
-    (Count (record { begun = cursor .begun + 1; left = count; place = end + 1 }))))
+    (Count (record { begun = suc (cursor .begun); left = count; place = next }))))
     (faulty cursor)
 
-abbrev pub stated : Cursor → (end millikelvin pascals : ℕ) → Line
-stated cursor end millikelvin pascals =
+abbrev pub stated : Cursor → (next millikelvin pascals : ℕ) → Line
+stated cursor next millikelvin pascals =
     cond (eqb (cursor .left) 0)
     (faulty cursor)
     (Told (Next.State
     (record { fluid = cursor .begun - 1; millikelvin = millikelvin; pascals = pascals })
-    (record { begun = cursor .begun; left = cursor .left - 1; place = end + 1 })))
+    (record { begun = cursor .begun; left = cursor .left - 1; place = next })))
 
-abbrev pub ended : Cursor → (end : ℕ) → Digest → Line
-ended cursor end Empty = faulty cursor
-ended cursor end (First number) = counted cursor end number
-ended cursor end (AfterSpace number) = faulty cursor
-ended cursor end (Second first second) = stated cursor end first second
-ended cursor end Bad = faulty cursor
+abbrev pub ended : Cursor → (next : ℕ) → Digest → Line
+ended cursor next Empty = faulty cursor
+ended cursor next (First number) = counted cursor next number
+ended cursor next (AfterSpace number) = faulty cursor
+ended cursor next (Second first second) = stated cursor next first second
+ended cursor next Bad = faulty cursor
 
 abbrev pub unended : Cursor → (end : ℕ) → Line
 unended cursor end =
     cond (ltb (cursor .place) end)
     (faulty cursor)
-    (cond (eqb (cursor .left) 0) (cond (ltb (cursor .begun) 2) (faulty cursor) (Told Next.Over)) (faulty cursor))
+    (cond (eqb (cursor .left) 0) (cond (ltb (cursor .begun) sections) (faulty cursor) (Told Next.Over)) (faulty cursor))
 
-abbrev pub behindScan : (bytes : List ℕ) → Cursor → Scanned → Line
-behindScan bytes cursor line =
-    cond (ltb (line .end) (length bytes)) (ended cursor (line .end) (line .digest)) (unended cursor (line .end))
+abbrev pub behindScan : Cursor → Scanned → Line
+behindScan cursor line = cond (ltb (line .end) (line .next)) (ended cursor (line .next) (line .digest)) (unended cursor (line .end))
 
 abbrev pub met : (bytes : List ℕ) → Cursor → Line
-met bytes cursor = behindScan bytes cursor (scans (cursor .place) Empty (drop (cursor .place) bytes))
+met bytes cursor = behindScan cursor (scans (cursor .place) Empty (drop (cursor .place) bytes))

@@ -10,7 +10,7 @@ use Rattle.sheets.specs.declared.cursors.State.{State}
 use Rattle.sheets.specs.declared.cursors.Cursor.{Cursor}
 use Rattle.sheets.specs.declared.cursors.Next.{Next}
 use Rattle.sheets.specs.declared.cursors.Next.the-variants as Next
-use Rattle.sheets.specs.Grammar.{sections, lineEnd, decimal, Pair, WritablePair, pairText}
+use Rattle.sheets.specs.Grammar.{sections, mostStates, lineEnd, decimal, Pair, WritablePair, pairText}
 
 abbrev pub start : Cursor
 start = record { begun = 0; left = 0; place = 0 }
@@ -26,7 +26,7 @@ pub record CountLine (bytes : List ℕ) (cursor after : Cursor) : Type 0 where
   pub begins : Begins bytes cursor (decimal count)
   pub none-left : cursor .left ≡ 0
   pub wanted : cursor .begun < sections
-  pub few : count ≤ 1000
+  pub few : count ≤ mostStates
   pub moves : after ≡ record { begun = suc (cursor .begun); left = count; place = cursor .place + suc (length (decimal count)) }
 
 -- a state line stands where the section lacks one; its fluid is the number of its section, from 0

@@ -10,8 +10,8 @@ use Rattle.sheets.specs.declared.cursors.Next.{Next}
 use Rattle.sheets.specs.declared.cursors.Next.the-variants as Next
 use Rattle.sheets.specs.declared.replies.Reading.{Reading}
 use Rattle.sheets.specs.declared.replies.Reading.the-variants as Reading
-use Rattle.sheets.specs.declared.replies.Asked.{Asked}
-use Rattle.sheets.specs.declared.replies.Asked.the-variants as Asked
+use Rattle.sheets.specs.declared.replies.LineReading.{LineReading}
+use Rattle.sheets.specs.declared.replies.LineReading.the-variants as LineReading
 use Rattle.sheets.specs.Grammar.{Pair, Good, statesFrom, sumOfCounts}
 use Rattle.sheets.specs.Reading.{start, Comes, Reads, lineOf}
 
@@ -53,11 +53,11 @@ ReadsAs bytes (Reading.StateLines count) = GoodWith bytes (λ lists. count ≡ s
 ReadsAs bytes (Reading.Malformed place) = FaultAt bytes place
 ReadsAs bytes Reading.TooLong = TooLong bytes
 
-abbrev pub LineReadsAs : (bytes : List ℕ) (k : ℕ) → Asked → Type 0
-LineReadsAs bytes k (Asked.State state) = GoodWith bytes (λ lists. getElem? (statesFrom 0 lists) k ≡ some state)
-LineReadsAs bytes k Asked.NoSuchLine = GoodWith bytes (λ lists. sumOfCounts lists ≤ k)
-LineReadsAs bytes k (Asked.Malformed place) = FaultAt bytes place
-LineReadsAs bytes k Asked.TooLong = TooLong bytes
+abbrev pub LineReadsAs : (bytes : List ℕ) (k : ℕ) → LineReading → Type 0
+LineReadsAs bytes k (LineReading.State state) = GoodWith bytes (λ lists. getElem? (statesFrom 0 lists) k ≡ some state)
+LineReadsAs bytes k LineReading.NoSuchLine = GoodWith bytes (λ lists. sumOfCounts lists ≤ k)
+LineReadsAs bytes k (LineReading.Malformed place) = FaultAt bytes place
+LineReadsAs bytes k LineReading.TooLong = TooLong bytes
 
 -- where what is shown back lies in the sheet, and its bytes
 abbrev pub shownAt : Reading → ℕ

@@ -18,9 +18,9 @@ pub struct State {
 // Where a reading stands, at the start of a line: how many sections were begun, how many state lines the
 // last of them still lacks, and the place of the line's first byte.
 pub struct Cursor {
-    pub begun: u64,
-    pub left: u64,
-    pub place: usize,
+    pub(crate) begun: u64,
+    pub(crate) left: u64,
+    pub(crate) place: usize,
 }
 
 // What comes next: a state line and the cursor behind it, the end of a good sheet, or a refusal.

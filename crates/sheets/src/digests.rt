@@ -28,11 +28,12 @@ pub(crate) enum Number {
     None,
 }
 
-// The line that starts at a place: its digest, and where it ends, at its byte 10 or at the end of the
-// bytes.
+// The line that starts at a place: its digest, where its text ends, and where the next line begins. The
+// two places are one where the bytes stop before a line's end.
 pub(crate) struct Scanned {
     pub digest: Digest,
     pub end: usize,
+    pub next: usize,
 }
 
 // A number's first digit.
@@ -112,10 +113,15 @@ pub(crate) fn scan(bytes: &[u8], place: usize, before: Digest) -> Scanned
     while end < bytes.len() {
         let byte = bytes[end];
         if byte == LINE_END {
-            break;
+            let next = end + 1;
+            return Scanned { digest, end, next };
         }
         digest = taken(digest, byte);
         end += 1;
     }
-    Scanned { digest, end }
+    Scanned {
+        digest,
+        end,
+        next: end,
+    }
 }

@@ -13,8 +13,8 @@ use crate::digests::scan;
 pub use cursors::Cursor;
 pub use cursors::Next;
 pub use cursors::State;
-pub use replies::Asked;
 pub use replies::LineFigures;
+pub use replies::LineReading;
 pub use replies::Reading;
 pub use replies::SheetFigures;
 
@@ -75,7 +75,7 @@ pub fn read(sheet: &[u8]) -> Reading
 }
 
 // State line k, counted from 0 through all sections, as written, in range or not.
-pub fn state_line(sheet: &[u8], k: u64) -> Asked
+pub fn state_line(sheet: &[u8], k: u64) -> LineReading
     ensures { λ r. ⌜ LineReadsAs (now (sheet .entry)) k r ⌝ }
 {
     let found = survey(sheet, k);
@@ -84,12 +84,12 @@ pub fn state_line(sheet: &[u8], k: u64) -> Asked
     match reading {
         Reading::StateLines(state_lines) => {
             if k < state_lines {
-                return Asked::State(state);
+                return LineReading::State(state);
             }
-            Asked::NoSuchLine
+            LineReading::NoSuchLine
         }
-        Reading::Malformed { place } => Asked::Malformed { place },
-        Reading::TooLong => Asked::TooLong,
+        Reading::Malformed { place } => LineReading::Malformed { place },
+        Reading::TooLong => LineReading::TooLong,
     }
 }
 

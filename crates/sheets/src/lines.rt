@@ -1,6 +1,6 @@
 // One line of a sheet, read where a cursor stands.
 ghost use mathlib.Core.Path.{_≡_};
-ghost use Prim.Native.Nat.{_-_, _^_, _<_};
+ghost use Prim.Native.Nat.{_-_};
 ghost use Rattle.sheets.specs.Lines.{counted, stated, ended, unended, met};
 use crate::cursors::Cursor;
 use crate::cursors::Next;
@@ -20,9 +20,8 @@ pub(crate) enum Line {
 }
 
 // A line that is one number stands where a section may begin.
-fn count_line(cursor: Cursor, end: usize, count: u64) -> Line
-    requires { ⌜ end < 2 ^ 64 - 1 ⌝ }
-    ensures { λ r. ⌜ r ≡ counted cursor end count ⌝ }
+fn count_line(cursor: Cursor, next: usize, count: u64) -> Line
+    ensures { λ r. ⌜ r ≡ counted cursor next count ⌝ }
 {
     let begun = cursor.begun;
     let left = cursor.left;
@@ -39,7 +38,7 @@ fn count_line(cursor: Cursor, end: usize, count: u64) -> Line
     Line::Count(Cursor {
         begun: begun + 1,
         left: count,
-        place: end + 1,
+        place: next,
     })
 }
 
@@ -54,9 +53,8 @@ fn fluid_of(begun: u64) -> u64
 }
 
 // A line of two numbers stands where the section begun last lacks a state.
-fn state_line(cursor: Cursor, end: usize, millikelvin: u64, pascals: u64) -> Line
-    requires { ⌜ end < 2 ^ 64 - 1 ⌝ }
-    ensures { λ r. ⌜ r ≡ stated cursor end millikelvin pascals ⌝ }
+fn state_line(cursor: Cursor, next: usize, millikelvin: u64, pascals: u64) -> Line
+    ensures { λ r. ⌜ r ≡ stated cursor next millikelvin pascals ⌝ }
 {
     let begun = cursor.begun;
     let left = cursor.left;
@@ -73,19 +71,18 @@ fn state_line(cursor: Cursor, end: usize, millikelvin: u64, pascals: u64) -> Lin
         after: Cursor {
             begun,
             left: left - 1,
-            place: end + 1,
+            place: next,
         },
     })
 }
 
-fn ended_line(cursor: Cursor, end: usize, digest: Digest) -> Line
-    requires { ⌜ end < 2 ^ 64 - 1 ⌝ }
-    ensures { λ r. ⌜ r ≡ ended cursor end digest ⌝ }
+fn ended_line(cursor: Cursor, next: usize, digest: Digest) -> Line
+    ensures { λ r. ⌜ r ≡ ended cursor next digest ⌝ }
 {
     let place = cursor.place;
     match digest {
-        Digest::First(count) => count_line(cursor, end, count),
-        Digest::Second { first, second } => state_line(cursor, end, first, second),
+        Digest::First(count) => count_line(cursor, next, count),
+        Digest::Second { first, second } => state_line(cursor, next, first, second),
         Digest::Empty => Line::Told(Next::Malformed { place }),
         Digest::AfterSpace(_) => Line::Told(Next::Malformed { place }),
         Digest::Bad => Line::Told(Next::Malformed { place }),
@@ -117,8 +114,9 @@ pub(crate) fn line_at(sheet: &[u8], cursor: Cursor) -> Line
     let line = scan(sheet, cursor.place, Digest::Empty);
     let digest = line.digest;
     let end = line.end;
-    if end < sheet.len() {
-        return ended_line(cursor, end, digest);
+    let next = line.next;
+    if end < next {
+        return ended_line(cursor, next, digest);
     }
     unended_line(cursor, end)
 }

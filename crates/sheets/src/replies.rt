@@ -11,7 +11,7 @@ pub enum Reading {
 }
 
 // One state line of a sheet, or the sheet's own refusal.
-pub enum Asked {
+pub enum LineReading {
     State(State),
     NoSuchLine,
     Malformed { place: usize },
@@ -58,21 +58,21 @@ impl Reading {
     }
 }
 
-impl Asked {
+impl LineReading {
     pub fn figures(self) -> LineFigures
         ensures { λ r. ⌜ r ≡ lineFigures self ⌝ }
     {
         match self {
-            Asked::State(state) => LineFigures {
+            LineReading::State(state) => LineFigures {
                 number: 0,
                 fluid: state.fluid,
                 millikelvin: state.millikelvin,
                 pascals: state.pascals,
                 place: 0,
             },
-            Asked::NoSuchLine => refused(16, 0),
-            Asked::Malformed { place } => refused(6, place),
-            Asked::TooLong => refused(7, 0),
+            LineReading::NoSuchLine => refused(16, 0),
+            LineReading::Malformed { place } => refused(6, place),
+            LineReading::TooLong => refused(7, 0),
         }
     }
 }

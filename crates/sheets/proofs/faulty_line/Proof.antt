@@ -2,14 +2,13 @@
 use mathlib.Core.Path.{refl}
 use native.Mathlib.Omega.{arith}
 use Rattle.sheets.specs.declared.replies.Reading.the-variants.{StateLines, Malformed, TooLong}
-use Rattle.sheets.specs.Replies.{FaultAt}
-use Rattle.sheets.proofs.Answers.{ends-behind, ends-within, is-part, shows-back}
+use Rattle.sheets.proofs.Answers.{Lies, lies, is-part, shows-back}
 use borrow.Author.Needs.{needs}
 use Rattle.sheets.proofs.faulty_line.Statement.{statement}
 use Rattle.sheets.proofs.faulty_line.Tie as tie
 
-fault : (c : tie.After-scan) → FaultAt (c .before .before .before .before .before .before .args .sheet .now) (c .before .before .place .given .0 .0)
-fault c = rw (c .before .before .place .given .1) at (c .before .before .before .before .read .ensures)
+places : (c : tie.After-scan) → Lies (c .before .before .before .before .before .before .args .sheet .now) (c .before .before .place .given .0 .0) (c .scan .result)
+places c = lies _ _ _ (c .scan .ensures) (rw (c .before .before .place .given .1) at (c .before .before .before .before .read .ensures))
 
 read-requires : tie.Need-read-requires
 read-requires c κs = search needs
@@ -45,13 +44,13 @@ scan-requires : tie.Need-scan-requires
 scan-requires c κs = search needs
 
 sub-result-3 : tie.Need-sub-result-3
-sub-result-3 c = ends-behind _ _ (c .scan .result) (c .scan .ensures)
+sub-result-3 c = omega (arith, places c)
 
 part-result-start-3 : tie.Need-part-result-start-3
-part-result-start-3 c = ends-behind _ _ (c .scan .result) (c .scan .ensures)
+part-result-start-3 c = omega (arith, places c)
 
 part-result-end-3 : tie.Need-part-result-end-3
-part-result-end-3 c = ends-within _ _ (c .scan .result) (c .scan .ensures) (fault c)
+part-result-end-3 c = omega (arith, places c)
 
 returns : tie.Need-returns
 returns c = (refl, shows-back _ _ _ _ (StateLines _) (c .before .enum-told .given .1) (c .before .before .before .read .ensures) (omega arith) refl)

@@ -9,7 +9,7 @@ use lib.ListN.{length}
 use Rattle.sheets.specs.declared.cursors.Next.the-variants as Next
 use Rattle.sheets.specs.Replies.{NextIn}
 use Rattle.sheets.proofs.Walks.{comes-moves}
-use Rattle.sheets.proofs.Surveys.{Walked, begins, walks-here, walks-past, found-all, found-fault}
+use Rattle.sheets.proofs.Surveys.{Walked, begins, few, walks-here, walks-past, found-all, found-fault}
 use Rattle.sheets.proofs.survey.Statement.{statement}
 use Rattle.sheets.proofs.survey.Tie as tie
 
@@ -36,9 +36,7 @@ enum-known-state : tie.Need-enum-known-state Inv-loop μ-loop
 enum-known-state c = search needs
 
 add-state-lines : tie.Need-add-state-lines Inv-loop μ-loop
-add-state-lines c =
-    let walked = c .before .before .before .before .before .loop .inv in
-    omega (arith, walked .few, walked .inside, state-came (c .before) .fits .short)
+add-state-lines c = omega (arith, few (c .before .before .before .before .before .loop .inv))
 
 loop-less : tie.Need-loop-less Inv-loop μ-loop
 loop-less c =

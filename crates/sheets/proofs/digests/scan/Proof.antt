@@ -36,11 +36,14 @@ loop-again c =
     rw (c .taken .ensures) (rw (add-one (c .before .before .before .before .loop .end))
     (sym (goes-on _ _ _ (c .before .before .before .loop-test .taken) (c .before .if1 .left)) ∙ c .before .before .before .before .loop .inv))
 
-returns : tie.Need-returns Inv-loop μ-loop
-returns c = sym (at-end _ _ _ (c .loop-test .left)) ∙ c .before .loop .inv
+add-next : tie.Need-add-next Inv-loop μ-loop
+add-next c = omega arith
 
 returns-2 : tie.Need-returns-2 Inv-loop μ-loop
-returns-2 c = sym (at-line-end _ _ _ (c .before .before .loop-test .taken) (c .if1 .taken)) ∙ c .before .before .before .loop .inv
+returns-2 c = sym (at-end _ _ _ (c .loop-test .left)) ∙ c .before .loop .inv
+
+returns : tie.Need-returns Inv-loop μ-loop
+returns c = sym (at-line-end _ _ _ (c .before .before .loop-test .taken) (c .if1 .taken)) ∙ c .before .before .before .loop .inv
 
 pub scan-spec : {M : Type 1} → statement M
 scan-spec =
@@ -50,9 +53,10 @@ scan-spec =
     μ-loop
     loop-holds
     shared-slice-read-byte
+    add-next
+    returns
     taken-requires
     add-end
     loop-less
     loop-again
-    returns
     returns-2)

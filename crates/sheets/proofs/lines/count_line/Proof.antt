@@ -1,4 +1,5 @@
 -- `sheets::lines::count_line` meets its contract: each test is the definition's. Assumes nothing.
+use native.Mathlib.Numerals.{add-one}
 use borrow.Author.Tests.{eq-eqb, ne-eqb, le-leb, lt-leb, lt-ltb, le-ltb}
 use borrow.Author.Needs.{needs}
 use Rattle.sheets.proofs.lines.count_line.Statement.{statement}
@@ -16,11 +17,8 @@ returns-3 c = simp (eq-eqb _ _ (c .before .before .if1 .left), lt-leb _ _ (c .be
 add-t11 : tie.Need-add-t11
 add-t11 c = search needs
 
-add-t12 : tie.Need-add-t12
-add-t12 c = search needs
-
 returns-4 : tie.Need-returns-4
-returns-4 c = simp (eq-eqb _ _ (c .before .before .if1 .left), lt-leb _ _ (c .before .if2 .left), le-ltb _ _ (c .if3 .left))
+returns-4 c = simp (add-one, eq-eqb _ _ (c .before .before .if1 .left), lt-leb _ _ (c .before .if2 .left), le-ltb _ _ (c .if3 .left))
 
 pub count-line-spec : {M : Type 1} → statement M
-count-line-spec = tie.close (tie.spec returns returns-2 returns-3 add-t11 add-t12 returns-4)
+count-line-spec = tie.close (tie.spec returns returns-2 returns-3 add-t11 returns-4)

@@ -13,11 +13,8 @@ fluid-of-requires c κs = search needs
 sub-t12 : tie.Need-sub-t12
 sub-t12 c = search needs
 
-add-t13 : tie.Need-add-t13
-add-t13 c = search needs
-
 returns-2 : tie.Need-returns-2
 returns-2 c = simp (ne-eqb _ _ (c .before .if1 .left), c .fluid-of .ensures)
 
 pub state-line-spec : {M : Type 1} → statement M
-state-line-spec = tie.close (tie.spec returns fluid-of-requires sub-t12 add-t13 returns-2)
+state-line-spec = tie.close (tie.spec returns fluid-of-requires sub-t12 returns-2)

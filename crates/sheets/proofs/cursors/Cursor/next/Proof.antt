@@ -7,6 +7,7 @@ use borrow.Author.Needs.{needs}
 use Rattle.sheets.specs.declared.cursors.Cursor.{Cursor}
 use Rattle.sheets.specs.declared.cursors.Next.{Next}
 use Rattle.sheets.specs.declared.lines.Line.the-variants.{Count, Told}
+use Rattle.sheets.specs.Grammar.{sections}
 use Rattle.sheets.specs.Reading.{CountLine, Here, Comes, behind-count, here}
 use Rattle.sheets.proofs.Meets.{stands-as}
 use Rattle.sheets.proofs.Answers.{next-is}
@@ -17,7 +18,7 @@ abbrev Inv-loop : tie.InvT-loop
 Inv-loop sheet cursor₀ cursor = (next : Next) → Comes sheet cursor next → Comes sheet cursor₀ next
 
 abbrev μ-loop : tie.MeasureT-loop
-μ-loop sheet cursor₀ cursor = 2 - cursor .begun
+μ-loop sheet cursor₀ cursor = sections - cursor .begun
 
 count-line : (c : tie.After-known-told Inv-loop μ-loop) → CountLine (c .before .before .before .before .before .before .before .args .sheet .now) (c .before .before .before .before .loop .cursor) (c .before .after .given .0 .0)
 count-line c = stands-as _ _ (Count _) (sym (c .before .after .given .1) ∙ c .before .before .before .line-at .ensures)

@@ -1,8 +1,8 @@
--- `sheets::replies::Asked::figures` gives the paper's figures of each case. Assumes nothing.
+-- `sheets::replies::LineReading::figures` gives the paper's figures of each case. Assumes nothing.
 use mathlib.Core.Path.{refl}
 use borrow.Author.Needs.{needs}
-use Rattle.sheets.proofs.replies.Asked.figures.Statement.{statement}
-use Rattle.sheets.proofs.replies.Asked.figures.Tie as tie
+use Rattle.sheets.proofs.replies.LineReading.figures.Statement.{statement}
+use Rattle.sheets.proofs.replies.LineReading.figures.Tie as tie
 
 enum-known-self : tie.Need-enum-known-self
 enum-known-self c = search needs
