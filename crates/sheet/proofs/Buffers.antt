@@ -16,15 +16,16 @@ puts-copied before text part kept post at copied inside all is-part same-length 
       short = omega arith;
       reaches = ap (λ (n : ℕ). at + n) all;
       stands =
-        ap (λ (l : List ℕ). take (at + copied) (take at before ++ l)) is-text
-        ∙ ap (λ (n : ℕ). take n (take at before ++ (text ++ (kept ++ post)))) reaches
-        ∙ take-append-add (take at before) (text ++ (kept ++ post)) (length text)
-        ∙ ap (λ (l : List ℕ). take at before ++ l) (take-append-seam text (kept ++ post));
+          ap (λ (l : List ℕ). take (at + copied) (take at before ++ l)) is-text
+          ∙ ap (λ (n : ℕ). take n (take at before ++ (text ++ (kept ++ post)))) reaches
+          ∙ take-append-add (take at before) (text ++ (kept ++ post)) (length text)
+          ∙ ap (λ (l : List ℕ). take at before ++ l) (take-append-seam text (kept ++ post));
       same-length = same-length;
     }
   where
     is-text : part ++ post ≡ text ++ (kept ++ post)
     is-text = ap (λ (l : List ℕ). l ++ post) (is-part ∙ ap (λ (l : List ℕ). l ++ kept) (take-length text)) ∙ append-assoc text kept post
+
     reaches : at + copied ≡ length (take at before) + length text
     reaches = omega (arith, all, length-take-le at before inside)
 
@@ -45,7 +46,7 @@ module _ {First Second : List ℕ → Type 0} {most more : ℕ} {before between 
         short = omega (arith, one .short, other .short, length-append (one .text) (other .text));
         reaches = omega (arith, one .reaches, other .reaches, length-append (one .text) (other .text));
         stands =
-          other .stands ∙ ap (λ (l : List ℕ). l ++ other .text) (one .stands) ∙ append-assoc (take at before) (one .text) (other .text);
+            other .stands ∙ ap (λ (l : List ℕ). l ++ other .text) (one .stands) ∙ append-assoc (take at before) (one .text) (other .text);
         same-length = other .same-length ∙ one .same-length;
       }
 

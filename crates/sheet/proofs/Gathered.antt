@@ -24,9 +24,13 @@ use Rattle.sheet.specs.Buffer.{Puts}
 -- one line more
 lines-on : (states : List State) (state : State) (text line : List ℕ) → LinesText states text → LineText state line → LinesText (states ++ (state ∷ [])) (text ++ line)
 lines-on [] state text line lines is-line = (line, [], is-line, refl, ap (λ (l : List ℕ). l ++ line) lines ∙ sym (append-nil line))
-lines-on (first ∷ states) state text line lines is-line =
-    (lines .0, lines .1 ++ line, lines .2, lines-on states state (lines .1) line (lines .3) is-line,
-    ap (λ (l : List ℕ). l ++ line) (lines .4) ∙ append-assoc (lines .0) (lines .1) line)
+lines-on (first ∷ states) state text line lines is-line = (
+  lines .0,
+  lines .1 ++ line,
+  lines .2,
+  lines-on states state (lines .1) line (lines .3) is-line,
+  ap (λ (l : List ℕ). l ++ line) (lines .4) ∙ append-assoc (lines .0) (lines .1) line,
+)
 
 pub record Gathered (bytes before : List ℕ) (cursor : Cursor) (buffer : List ℕ) (end : ℕ) : Type 0 where
   pub states : List State
@@ -64,26 +68,27 @@ module _ {bytes before : List ℕ} {cursor : Cursor} {buffer : List ℕ} {end : 
           states = gathered .states ++ (state ∷ []);
           passed = on;
           are-lines =
-            subst (LinesText (gathered .states ++ (state ∷ []))) (sym (puts .stands))
-            (lines-on (gathered .states) state (take end buffer) (puts .text) (gathered .are-lines) (puts .is-text));
+              subst (LinesText (gathered .states ++ (state ∷ []))) (sym (puts .stands))
+              (lines-on (gathered .states) state (take end buffer) (puts .text) (gathered .are-lines) (puts .is-text));
           short = omega (arith, gathered .short, puts .short, puts .reaches, length-append (gathered .states) (state ∷ []));
           same-length = puts .same-length ∙ gathered .same-length;
         }
 
   pub prints-all : NextIn bytes cursor Next.Over → Counts end buffer × Prints bytes (take end buffer)
   prints-all next =
-      let written = read-good bytes (gathered .states) (all-passed bytes (gathered .states) Next.Over (gathered .passed) (next .comes)) in
-      (counts buffer end within,
-      record {
-        reading = StateLines (sumOfCounts (written .lists));
-        reads-as = record { fits = next .fits; lists = written .lists; good = written .good; holds = refl };
-        is-text =
-          record {
-            lists = written .lists;
-            good = written .good;
-            are-lines = subst (λ (l : List State). LinesText l (take end buffer)) (written .are-states) (gathered .are-lines);
-          };
-      })
+      let written = read-good bytes (gathered .states) (all-passed bytes (gathered .states) Next.Over (gathered .passed) (next .comes)) in (
+        counts buffer end within,
+        record {
+          reading = StateLines (sumOfCounts (written .lists));
+          reads-as = record { fits = next .fits; lists = written .lists; good = written .good; holds = refl };
+          is-text =
+              record {
+                lists = written .lists;
+                good = written .good;
+                are-lines = subst (λ (l : List State). LinesText l (take end buffer)) (written .are-states) (gathered .are-lines);
+              };
+        },
+      )
 
   module _ {later : List ℕ} {next : ℕ} where
     -- a fault is put at the start of the buffer, over any lines
@@ -93,13 +98,14 @@ module _ {bytes before : List ℕ} {cursor : Cursor} {buffer : List ℕ} {end : 
 
     pub prints-fault : (place : ℕ) → NextIn bytes cursor (Next.Malformed place) → Puts (FaultText (Malformed place)) 48 buffer 0 later next → Counts next later × Prints bytes (take next later)
     prints-fault place next-in puts =
-        let told = alone (Malformed place) puts in
-        (told .0,
-        record {
-          reading = Malformed place;
-          reads-as = record { fits = next-in .fits; before = gathered .states; reads = all-passed bytes (gathered .states) (Next.Malformed place) (gathered .passed) (next-in .comes) };
-          is-text = told .1;
-        })
+        let told = alone (Malformed place) puts in (
+          told .0,
+          record {
+            reading = Malformed place;
+            reads-as = record { fits = next-in .fits; before = gathered .states; reads = all-passed bytes (gathered .states) (Next.Malformed place) (gathered .passed) (next-in .comes) };
+            is-text = told .1;
+          },
+        )
 
     pub prints-too-long : sheets.TooLong bytes → Puts (FaultText TooLong) 48 buffer 0 later next → Counts next later × Prints bytes (take next later)
     prints-too-long long puts = let told = alone TooLong puts in (told .0, record { reading = TooLong; reads-as = long; is-text = told .1 })

@@ -2,3 +2,4 @@ pub mod Buffers
 pub mod Lines
 pub mod Replies
 pub mod Gathered
+pub mod Theorems

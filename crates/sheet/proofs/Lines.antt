@@ -48,8 +48,8 @@ two-numbers word first second text parts =
       last = parts .second;
       is-last = parts .is-second;
       is-text =
-        parts .is-text
-        ∙ ap (λ (l : List ℕ). l ++ parts .second) (numbered .is-text ∙ ap (λ (l : List ℕ). l ++ numbered .second) (spaced .is-text ∙ ap₂ (λ (l m : List ℕ). l ++ m) (spaced .is-first) (spaced .is-second)))
-        ∙ append-assoc (word ++ (space ∷ [])) (numbered .second) (parts .second)
-        ∙ append-assoc word (space ∷ []) (numbered .second ++ parts .second);
+          parts .is-text
+          ∙ ap (λ (l : List ℕ). l ++ parts .second) (numbered .is-text ∙ ap (λ (l : List ℕ). l ++ numbered .second) (spaced .is-text ∙ ap₂ (λ (l m : List ℕ). l ++ m) (spaced .is-first) (spaced .is-second)))
+          ∙ append-assoc (word ++ (space ∷ [])) (numbered .second) (parts .second)
+          ∙ append-assoc word (space ∷ []) (numbered .second ++ parts .second);
     }

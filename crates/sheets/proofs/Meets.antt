@@ -95,7 +95,7 @@ module _ (bytes : List ℕ) (cursor : Cursor) where
       ∙ simp (le-ltb (cursor .place) (cursor .place + length (drop (cursor .place) bytes)) (omega (arith, ap length nothing)), eq-eqb (cursor .left) 0 (over .none-left), le-ltb (cursor .begun) sections (over .none-wanted))
 
   -- so what is met as a fault is one
-  fault : met bytes cursor ≡ faulty cursor → IsFault bytes cursor (cursor .place)
+  fault : met bytes cursor ≡ faulty (cursor .place) → IsFault bytes cursor (cursor .place)
   fault is-met =
       record {
         no-count-line = λ after line. omega (arith, ap kind (sym (count-met after line) ∙ is-met));
@@ -116,12 +116,12 @@ module _ (bytes : List ℕ) (cursor : Cursor) where
       after = record { begun = suc (cursor .begun); left = count; place = cursor .place + suc (length text) }
 
       few : Line
-      few = cond (ltb mostStates count) (faulty cursor) (Count after)
+      few = cond (ltb mostStates count) (faulty (cursor .place)) (Count after)
 
       wanted : Line
-      wanted = cond (leb sections (cursor .begun)) (faulty cursor) few
+      wanted = cond (leb sections (cursor .begun)) (faulty (cursor .place)) few
 
-      few-or-not : (t : Bool) → ltb mostStates count ≡ t → cursor .left ≡ 0 → cursor .begun < sections → met bytes cursor ≡ cond t (faulty cursor) (Count after) → Stands (cond t (faulty cursor) (Count after))
+      few-or-not : (t : Bool) → ltb mostStates count ≡ t → cursor .left ≡ 0 → cursor .begun < sections → met bytes cursor ≡ cond t (faulty (cursor .place)) (Count after) → Stands (cond t (faulty (cursor .place)) (Count after))
       few-or-not true e none begins-one same = fault same
       few-or-not false e none begins-one same =
           record {
@@ -133,11 +133,11 @@ module _ (bytes : List ℕ) (cursor : Cursor) where
             moves = ap (λ (l : List ℕ). record { begun = suc (cursor .begun); left = count; place = cursor .place + suc (length l) }) (spells .is-text);
           }
 
-      wanted-or-not : (t : Bool) → leb sections (cursor .begun) ≡ t → cursor .left ≡ 0 → met bytes cursor ≡ cond t (faulty cursor) few → Stands (cond t (faulty cursor) few)
+      wanted-or-not : (t : Bool) → leb sections (cursor .begun) ≡ t → cursor .left ≡ 0 → met bytes cursor ≡ cond t (faulty (cursor .place)) few → Stands (cond t (faulty (cursor .place)) few)
       wanted-or-not true e none same = fault same
       wanted-or-not false e none same = few-or-not (ltb mostStates count) refl none (leb-false sections (cursor .begun) e) same
 
-      left-or-not : (t : Bool) → eqb (cursor .left) 0 ≡ t → met bytes cursor ≡ cond t wanted (faulty cursor) → Stands (cond t wanted (faulty cursor))
+      left-or-not : (t : Bool) → eqb (cursor .left) 0 ≡ t → met bytes cursor ≡ cond t wanted (faulty (cursor .place)) → Stands (cond t wanted (faulty (cursor .place)))
       left-or-not true e same = wanted-or-not (leb sections (cursor .begun)) refl (eqb-true (cursor .left) 0 e) same
       left-or-not false e same = fault same
 
@@ -150,7 +150,7 @@ module _ (bytes : List ℕ) (cursor : Cursor) where
       after : Cursor
       after = record { begun = cursor .begun; left = cursor .left - 1; place = cursor .place + suc (length text) }
 
-      left-or-not : (t : Bool) → eqb (cursor .left) 0 ≡ t → met bytes cursor ≡ cond t (faulty cursor) (Told (Next.State state after)) → Stands (cond t (faulty cursor) (Told (Next.State state after)))
+      left-or-not : (t : Bool) → eqb (cursor .left) 0 ≡ t → met bytes cursor ≡ cond t (faulty (cursor .place)) (Told (Next.State state after)) → Stands (cond t (faulty (cursor .place)) (Told (Next.State state after)))
       left-or-not true e same = fault same
       left-or-not false e same =
           let some-left = eqb-false (cursor .left) 0 e in
@@ -177,16 +177,16 @@ module _ (bytes : List ℕ) (cursor : Cursor) where
       end = cursor .place + length (drop (cursor .place) bytes)
 
       wanted : Line
-      wanted = cond (ltb (cursor .begun) sections) (faulty cursor) (Told Next.Over)
+      wanted = cond (ltb (cursor .begun) sections) (faulty (cursor .place)) (Told Next.Over)
 
       left : Line
-      left = cond (eqb (cursor .left) 0) wanted (faulty cursor)
+      left = cond (eqb (cursor .left) 0) wanted (faulty (cursor .place))
 
-      wanted-or-not : (t : Bool) → ltb (cursor .begun) sections ≡ t → drop (cursor .place) bytes ≡ [] → cursor .left ≡ 0 → met bytes cursor ≡ cond t (faulty cursor) (Told Next.Over) → Stands (cond t (faulty cursor) (Told Next.Over))
+      wanted-or-not : (t : Bool) → ltb (cursor .begun) sections ≡ t → drop (cursor .place) bytes ≡ [] → cursor .left ≡ 0 → met bytes cursor ≡ cond t (faulty (cursor .place)) (Told Next.Over) → Stands (cond t (faulty (cursor .place)) (Told Next.Over))
       wanted-or-not true e nothing none same = fault same
       wanted-or-not false e nothing none same = record { none-left = none; none-wanted = ltb-false (cursor .begun) sections e; nothing-follows = nothing }
 
-      left-or-not : (t : Bool) → eqb (cursor .left) 0 ≡ t → drop (cursor .place) bytes ≡ [] → met bytes cursor ≡ cond t wanted (faulty cursor) → Stands (cond t wanted (faulty cursor))
+      left-or-not : (t : Bool) → eqb (cursor .left) 0 ≡ t → drop (cursor .place) bytes ≡ [] → met bytes cursor ≡ cond t wanted (faulty (cursor .place)) → Stands (cond t wanted (faulty (cursor .place)))
       left-or-not true e nothing same = wanted-or-not (ltb (cursor .begun) sections) refl nothing (eqb-true (cursor .left) 0 e) same
       left-or-not false e nothing same = fault same
 
@@ -194,7 +194,7 @@ module _ (bytes : List ℕ) (cursor : Cursor) where
       empty [] none = refl
       empty (byte ∷ l) none = absurd (suc-ne-zero (length l) none)
 
-      more-or-not : (t : Bool) → ltb (cursor .place) end ≡ t → met bytes cursor ≡ cond t (faulty cursor) left → Stands (cond t (faulty cursor) left)
+      more-or-not : (t : Bool) → ltb (cursor .place) end ≡ t → met bytes cursor ≡ cond t (faulty (cursor .place)) left → Stands (cond t (faulty (cursor .place)) left)
       more-or-not true e same = fault same
       more-or-not false e same =
           let none-more : end ≤ cursor .place = ltb-false (cursor .place) end e in

@@ -1,7 +1,7 @@
 // One line of a sheet, read where a cursor stands.
 ghost use mathlib.Core.Path.{_≡_};
 ghost use Prim.Native.Nat.{_-_};
-ghost use Rattle.sheets.specs.Lines.{counted, stated, ended, unended, met};
+ghost use Rattle.sheets.specs.Lines.{faulty, counted, stated, ended, unended, met};
 use crate::cursors::Cursor;
 use crate::cursors::Next;
 use crate::cursors::State;
@@ -19,6 +19,12 @@ pub(crate) enum Line {
     Told(Next),
 }
 
+fn malformed(place: usize) -> Line
+    ensures { λ r. ⌜ r ≡ faulty place ⌝ }
+{
+    Line::Told(Next::Malformed { place })
+}
+
 // A line that is one number stands where a section may begin.
 fn count_line(cursor: Cursor, next: usize, count: u64) -> Line
     ensures { λ r. ⌜ r ≡ counted cursor next count ⌝ }
@@ -27,13 +33,13 @@ fn count_line(cursor: Cursor, next: usize, count: u64) -> Line
     let left = cursor.left;
     let place = cursor.place;
     if left != 0 {
-        return Line::Told(Next::Malformed { place });
+        return malformed(place);
     }
     if SECTIONS <= begun {
-        return Line::Told(Next::Malformed { place });
+        return malformed(place);
     }
     if MOST_STATES < count {
-        return Line::Told(Next::Malformed { place });
+        return malformed(place);
     }
     Line::Count(Cursor {
         begun: begun + 1,
@@ -60,7 +66,7 @@ fn state_line(cursor: Cursor, next: usize, millikelvin: u64, pascals: u64) -> Li
     let left = cursor.left;
     let place = cursor.place;
     if left == 0 {
-        return Line::Told(Next::Malformed { place });
+        return malformed(place);
     }
     Line::Told(Next::State {
         state: State {
@@ -83,9 +89,9 @@ fn ended_line(cursor: Cursor, next: usize, digest: Digest) -> Line
     match digest {
         Digest::First(count) => count_line(cursor, next, count),
         Digest::Second { first, second } => state_line(cursor, next, first, second),
-        Digest::Empty => Line::Told(Next::Malformed { place }),
-        Digest::AfterSpace(_) => Line::Told(Next::Malformed { place }),
-        Digest::Bad => Line::Told(Next::Malformed { place }),
+        Digest::Empty => malformed(place),
+        Digest::AfterSpace(_) => malformed(place),
+        Digest::Bad => malformed(place),
     }
 }
 
@@ -97,13 +103,13 @@ fn unended_line(cursor: Cursor, end: usize) -> Line
     let left = cursor.left;
     let place = cursor.place;
     if place < end {
-        return Line::Told(Next::Malformed { place });
+        return malformed(place);
     }
     if left != 0 {
-        return Line::Told(Next::Malformed { place });
+        return malformed(place);
     }
     if begun < SECTIONS {
-        return Line::Told(Next::Malformed { place });
+        return malformed(place);
     }
     Line::Told(Next::Over)
 }

@@ -19,7 +19,7 @@ same-length : tie.Need-same-length
 same-length c = search needs
 
 returns : tie.Need-returns
-returns c = 
+returns c =
     seen-as (fault-line (c .before .before .before .before .before .before .before .args .fault) _ (c .before .before .before .before .before .figures .ensures)) (omega arith) (c .before .before .put-two .ensures)
 
 pub put-fault-spec : {M : Type 1} → statement M

@@ -22,7 +22,7 @@ same-length : tie.Need-same-length
 same-length c = search needs
 
 returns : tie.Need-returns
-returns c = 
+returns c =
     seen-as (λ text is-text. refused-line _ (c .before .before .before .before .before .before .before .ask .result) _ (c .before .before .before .before .before .before .before .ask .ensures) (c .before .before .before .before .before .before .figures .ensures) text (c .before .before .before .before .before .if1 .taken) is-text) (omega arith) (c .before .before .put-one .ensures)
 
 slice-aggregate-put-two : tie.Need-slice-aggregate-put-two
@@ -35,7 +35,7 @@ same-length-2 : tie.Need-same-length-2
 same-length-2 c = search needs
 
 returns-2 : tie.Need-returns-2
-returns-2 c = 
+returns-2 c =
     seen-as (λ text is-text. one-line _ (c .before .before .before .before .before .before .before .before .ask .result) _ (c .before .before .before .before .before .before .before .before .ask .ensures) (c .before .before .before .before .before .before .before .figures .ensures) text (c .before .before .before .before .before .before .if1 .left) (c .before .before .before .before .before .if2 .taken) is-text) (omega arith) (c .before .before .put-two .ensures)
 
 slice-aggregate-put-two-2 : tie.Need-slice-aggregate-put-two-2
@@ -48,7 +48,7 @@ same-length-3 : tie.Need-same-length-3
 same-length-3 c = search needs
 
 returns-3 : tie.Need-returns-3
-returns-3 c = 
+returns-3 c =
     seen-as (λ text is-text. split-line _ (c .before .before .before .before .before .before .before .before .ask .result) _ (c .before .before .before .before .before .before .before .before .ask .ensures) (c .before .before .before .before .before .before .before .figures .ensures) text (c .before .before .before .before .before .before .if1 .left) (c .before .before .before .before .before .if2 .left) is-text) (omega arith) (c .before .before .put-two2 .ensures)
 
 pub put-state-spec : {M : Type 1} → statement M

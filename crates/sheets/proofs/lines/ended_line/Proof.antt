@@ -1,5 +1,4 @@
--- `sheets::lines::ended_line` meets its contract: each test is the definition's. Assumes nothing.
-use mathlib.Core.Path.{refl}
+-- `sheets::lines::ended_line` meets its contract: each arm is the definition's. Assumes nothing.
 use borrow.Author.Needs.{needs}
 use Rattle.sheets.proofs.lines.ended_line.Statement.{statement}
 use Rattle.sheets.proofs.lines.ended_line.Tie as tie
@@ -19,11 +18,20 @@ state-line-requires c κs = search needs
 enum-told : tie.Need-enum-told
 enum-told c = search needs
 
+malformed-requires : tie.Need-malformed-requires
+malformed-requires c κs = search needs
+
 enum-told-2 : tie.Need-enum-told-2
 enum-told-2 c = search needs
 
+malformed-requires-2 : tie.Need-malformed-requires-2
+malformed-requires-2 c κs = search needs
+
 enum-told-3 : tie.Need-enum-told-3
 enum-told-3 c = search needs
+
+malformed-requires-3 : tie.Need-malformed-requires-3
+malformed-requires-3 c κs = search needs
 
 returns : tie.Need-returns
 returns c = rw (c .before .before .digest .given .1) (c .count-line .ensures)
@@ -32,13 +40,13 @@ returns-2 : tie.Need-returns-2
 returns-2 c = rw (c .before .before .digest2 .given .1) (c .state-line .ensures)
 
 returns-3 : tie.Need-returns-3
-returns-3 c = rw (c .enum-told .given .1) refl
+returns-3 c = rw (c .before .enum-told .given .1) (c .malformed .ensures)
 
 returns-4 : tie.Need-returns-4
-returns-4 c = rw (c .enum-told2 .given .1) refl
+returns-4 c = rw (c .before .enum-told2 .given .1) (c .malformed2 .ensures)
 
 returns-5 : tie.Need-returns-5
-returns-5 c = rw (c .enum-told3 .given .1) refl
+returns-5 c = rw (c .before .enum-told3 .given .1) (c .malformed3 .ensures)
 
 pub ended-line-spec : {M : Type 1} → statement M
 ended-line-spec =
@@ -49,8 +57,11 @@ ended-line-spec =
     enum-known-digest-2
     state-line-requires
     enum-told
+    malformed-requires
     enum-told-2
+    malformed-requires-2
     enum-told-3
+    malformed-requires-3
     returns
     returns-2
     returns-3
