@@ -4,4 +4,5 @@
 pub mod cubic;
 pub mod heat;
 pub mod random;
+pub mod sheet;
 pub mod state;
