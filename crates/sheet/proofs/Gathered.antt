@@ -1,7 +1,7 @@
 -- The text gathered so far: a line for each state line passed, within the room that they have. Assumes nothing.
 use mathlib.Core.Path.{_≡_, refl, sym, ap, subst, _∙_}
 use mathlib.Core.List.{List, [], _∷_, _++_, append-assoc, append-nil}
-use Prim.Native.Nat.{ℕ, suc, _+_, _*_, _≤_}
+use Prim.Native.Nat.{ℕ, _+_, _*_, _≤_}
 use native.Mathlib.Omega.{arith}
 use lib.ListN.{length, take, length-append}
 use lib.Seq.{length-take-le}
@@ -14,7 +14,7 @@ use Rattle.sheets.specs.declared.replies.Reading.{Reading}
 use Rattle.sheets.specs.declared.replies.Reading.the-variants.{StateLines, Malformed, TooLong}
 use Rattle.sheets.specs.Grammar.{sumOfCounts}
 use Rattle.sheets.specs.Reading.{start, Comes}
-use Rattle.sheets.specs.Replies.{NextIn, ReadsAs}
+use Rattle.sheets.specs.Replies.{NextIn}
 use Rattle.sheets.specs.Replies as sheets
 use Rattle.sheets.proofs.Passed.{Passed, none-passed, one-passed, all-passed}
 use Rattle.sheets.proofs.Written.{read-good}

@@ -3,7 +3,7 @@
 ghost use Prim.Native.Nat.{_+_, _≤_};
 ghost use lib.ListN.{length, take};
 ghost use Rattle.io.specs.Counts.{Counts};
-ghost use Rattle.sheet.specs.Prints.{LineText, ReadingText, FaultText, Prints};
+ghost use Rattle.sheet.specs.Prints.{LineText, FaultText, Prints};
 ghost use Rattle.sheet.specs.Buffer.{Puts};
 use crate::texts::put_one;
 use crate::texts::put_two;

@@ -5,7 +5,7 @@ use mathlib.Core.List.{List, [], _∷_, _++_}
 use Prim.Native.Nat.{ℕ, zero, suc, _+_, _-_, _*_, _/_, _%_, _≤_, _<_}
 use native.Mathlib.Omega.{arith}
 use lib.Dec.{ltb, leb, eqb}
-use borrow.Author.Tests.{ltb-true, ltb-false, leb-true, leb-false, eqb-true, eqb-false, lt-ltb, le-ltb, lt-leb, ne-eqb}
+use borrow.Author.Tests.{ltb-false, leb-false, eqb-false, lt-ltb, le-ltb, lt-leb, ne-eqb}
 use Rattle.sheets.specs.declared.digests.Number.{Number}
 use Rattle.sheets.specs.declared.digests.Number.the-variants.{Is, None}
 use Rattle.sheets.specs.Grammar.{digit, behind, digits, decimal}

@@ -1,6 +1,6 @@
 -- A walk over a sheet: the state lines passed, and then the reading from where the cursor is, make the reading from the start; and there are no
 -- more of them than the sections begun have room for. Assumes nothing.
-use mathlib.Core.Path.{_≡_, sym, ap, subst}
+use mathlib.Core.Path.{sym, ap, subst}
 use mathlib.Core.List.{List, [], _∷_, _++_, append-nil}
 use Prim.Native.Nat.{ℕ, suc, _+_, _*_, _≤_}
 use native.Mathlib.Omega.{arith}

@@ -1,17 +1,14 @@
 -- A scan goes on with what is left and stops at a line's end: at each place, what is left gives the whole. Assumes nothing.
-use mathlib.Core.Path.{_≡_, refl, sym, ap, _∙_}
-use mathlib.Core.Bool.{Bool}
-use mathlib.Core.List.{List, [], _∷_, foldl}
+use mathlib.Core.Path.{_≡_}
+use mathlib.Core.List.{List}
 use Prim.Native.Nat.{ℕ, suc, _+_, _≤_, _<_}
 use native.Mathlib.Nat.{add-zero, add-suc, suc-add}
-use lib.Dec.{eqb}
 use lib.ListN.{length, drop, getD, drop-of-length-le}
 use lib.Seq.{drop-cons}
 use borrow.Author.Tests.{eq-eqb, ne-eqb}
 use Rattle.sheets.specs.declared.digests.Digest.{Digest}
 use Rattle.sheets.specs.declared.digests.Scanned.{Scanned}
 use Rattle.sheets.specs.Grammar.{lineEnd}
-use Rattle.sheets.specs.Reading.{upTo, lineOf}
 use Rattle.sheets.specs.Digests.{takes, scans}
 
 abbrev pub stopped : (place next : ℕ) → Digest → Scanned

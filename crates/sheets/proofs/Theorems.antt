@@ -18,9 +18,8 @@ use Rattle.sheets.specs.declared.replies.LineFigures.{LineFigures}
 use Rattle.sheets.specs.Grammar.{decimal, Writable, Pair, Good, statesFrom, sumOfCounts}
 use Rattle.sheets.specs.Numerals.{Numeral, valueOf}
 use Rattle.sheets.specs.Reading.{start, Reads}
-use Rattle.sheets.specs.Replies.{mostBytes, Fits, NextIs, FaultAt, ReadsAs, LineReadsAs, shownAt, shown, ShowsBack}
+use Rattle.sheets.specs.Replies.{mostBytes, Fits, NextIs, ReadsAs, LineReadsAs, shownAt, shown, ShowsBack}
 use Rattle.sheets.specs.Figures.{sheetFigures, lineFigures}
-use Rattle.sheets.proofs.Texts.{Spells}
 use Rattle.sheets.proofs.Walks.{Ends, reads-never-too-long}
 use Rattle.sheets.proofs.Written.{read-good, good-read, states-counted}
 use Rattle.sheets.proofs.Existence.{Whole, whole}

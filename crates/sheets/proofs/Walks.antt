@@ -1,21 +1,20 @@
 -- What comes next from a cursor, and how a reading goes on from there: it is determined, it always is, and each state line lies farther on in
 -- the sheet. Assumes nothing.
 use mathlib.Core.Path.{_≡_, refl, sym, ap, subst, _∙_}
-use mathlib.Core.List.{List, [], _∷_, _++_}
-use Prim.Native.Nat.{ℕ, zero, suc, _+_, _-_, _≤_, _<_}
+use mathlib.Core.List.{List, [], _∷_}
+use Prim.Native.Nat.{ℕ, _≤_, _<_}
 use native.Mathlib.Omega.{arith}
-use lib.ListN.{length, drop}
+use lib.ListN.{length}
 use Rattle.sheets.specs.declared.cursors.State.{State}
 use Rattle.sheets.specs.declared.cursors.Cursor.{Cursor}
 use Rattle.sheets.specs.declared.cursors.Next.{Next}
 use Rattle.sheets.specs.declared.cursors.Next.the-variants as Next
 use Rattle.sheets.specs.declared.lines.Line.{Line}
 use Rattle.sheets.specs.declared.lines.Line.the-variants.{Count, Told}
-use Rattle.sheets.specs.Grammar.{sections, decimal, pairText}
+use Rattle.sheets.specs.Grammar.{decimal, pairText}
 use Rattle.sheets.specs.Reading.{CountLine, StateLine, Here, Comes, behind-count, here, Reads}
-use Rattle.sheets.specs.Lines.{met}
 use Rattle.sheets.proofs.Splits.{ends-inside}
-use Rattle.sheets.proofs.Meets.{kind, count-met, here-met, Stands, met-stands}
+use Rattle.sheets.proofs.Meets.{count-met, here-met}
 
 -- a refusal or the end, behind the last state line
 abbrev pub Ends : Next → Type 0
@@ -47,6 +46,10 @@ afterOf other (Next.State state after) = after
 afterOf other Next.Over = other
 afterOf other (Next.Malformed place) = other
 afterOf other Next.TooLong = other
+
+pub record Same (states states′ : List State) (last last′ : Next) : Type 0 where
+  pub same-states : states ≡ states′
+  pub same-last : last ≡ last′
 
 module _ (bytes : List ℕ) where
   pub count-determined : (cursor after after′ : Cursor) → CountLine bytes cursor after → CountLine bytes cursor after′ → after ≡ after′
@@ -109,11 +112,7 @@ module _ (bytes : List ℕ) where
   behind cursor after [] last line reads = behind-count line reads
   behind cursor after (state ∷ states) last line reads = (reads .0, behind-count line (reads .1), reads .2)
 
-  -- both readings of a sheet are one
-  pub record Same (states states′ : List State) (last last′ : Next) : Type 0 where
-    pub same-states : states ≡ states′
-    pub same-last : last ≡ last′
-
+  -- so two readings of a sheet are one
   pub reads-determined : (cursor : Cursor) (states states′ : List State) (last last′ : Next) → Ends last → Ends last′ → Reads bytes cursor states last → Reads bytes cursor states′ last′ → Same states states′ last last′
   reads-determined cursor [] [] last last′ ends ends′ reads reads′ = record { same-states = refl; same-last = comes-determined reads reads′ }
   reads-determined cursor [] (state ∷ states′) last last′ ends ends′ reads reads′ = absurd (subst Ends (comes-determined reads (reads′ .1)) ends)

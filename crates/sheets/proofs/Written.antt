@@ -2,7 +2,7 @@
 -- state lines that the section begun last still lacks, `lists` the sections to come. Assumes nothing.
 use mathlib.Core.Path.{_≡_, refl, sym, ap, subst, _∙_}
 use mathlib.Core.List.{List, [], _∷_, _++_, append-assoc}
-use Prim.Native.Nat.{ℕ, zero, suc, _+_, _-_, _≤_, _<_}
+use Prim.Native.Nat.{ℕ, suc, _+_, _-_, _≤_, _<_}
 use native.Mathlib.Nat.{suc-ne-zero}
 use native.Mathlib.Omega.{arith}
 use lib.ListN.{length, drop, length-append}
@@ -11,7 +11,7 @@ use Rattle.sheets.specs.declared.cursors.State.{State}
 use Rattle.sheets.specs.declared.cursors.Cursor.{Cursor}
 use Rattle.sheets.specs.declared.cursors.Next.{Next}
 use Rattle.sheets.specs.declared.cursors.Next.the-variants as Next
-use Rattle.sheets.specs.Grammar.{sections, mostStates, lineEnd, decimal, Pair, pairText, line, stateLines, section, sheet, EachWritable, WritableSection, EachSection, Good, ofFluid, statesFrom, sumOfCounts}
+use Rattle.sheets.specs.Grammar.{sections, mostStates, lineEnd, decimal, Pair, pairText, line, stateLines, section, sheet, EachWritable, EachSection, Good, ofFluid, statesFrom, sumOfCounts}
 use Rattle.sheets.specs.Reading.{start, CountLine, StateLine, IsOver, Comes, behind-count, here, Reads}
 use Rattle.sheets.proofs.Splits.{drop-behind}
 use Rattle.sheets.proofs.Walks.{behind}

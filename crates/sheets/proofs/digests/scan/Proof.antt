@@ -1,7 +1,7 @@
 -- `sheets::digests::scan` meets its contract. The loop's invariant: to scan what is left, from the digest so far, gives what to scan the whole
 -- gives. The measure is how many bytes are left. Assumes nothing.
 use mathlib.Core.Path.{_≡_, refl, sym, _∙_}
-use Prim.Native.Nat.{ℕ, _-_}
+use Prim.Native.Nat.{_-_}
 use native.Mathlib.Numerals.{add-one}
 use native.Mathlib.Omega.{arith}
 use lib.ListN.{length, drop}
