@@ -34,32 +34,26 @@ kind (Told (Next.Malformed place)) = 3
 kind (Told Next.TooLong) = 4
 
 module _ (bytes : List ℕ) (cursor : Cursor) where
-  -- a scan whose line has its end
-  pub scan-ended : (line : Scanned) → line ≡ scans (cursor .place) Empty (drop (cursor .place) bytes) → line .end < line .next → ended cursor (line .next) (line .digest) ≡ met bytes cursor
-  scan-ended line is-scan inside =
-      sym (ap (λ (t : Bool). cond t (ended cursor (line .next) (line .digest)) (unended cursor (line .end))) (lt-ltb (line .end) (line .next) inside))
-      ∙ ap (behindScan cursor) is-scan
-
-  pub scan-unended : (line : Scanned) → line ≡ scans (cursor .place) Empty (drop (cursor .place) bytes) → line .next ≤ line .end → unended cursor (line .end) ≡ met bytes cursor
-  scan-unended line is-scan outside =
-      sym (ap (λ (t : Bool). cond t (ended cursor (line .next) (line .digest)) (unended cursor (line .end))) (le-ltb (line .end) (line .next) outside))
-      ∙ ap (behindScan cursor) is-scan
+  -- what is met is told by the scan from the cursor on: whether its line has its end
+  pub scan-met : (line : Scanned) (has-end : Bool) → line ≡ scans (cursor .place) Empty (drop (cursor .place) bytes) → ltb (line .end) (line .next) ≡ has-end → cond has-end (ended cursor (line .next) (line .digest)) (unended cursor (line .end)) ≡ met bytes cursor
+  scan-met line has-end is-scan test =
+      sym (ap (λ (t : Bool). cond t (ended cursor (line .next) (line .digest)) (unended cursor (line .end))) test) ∙ ap (behindScan cursor) is-scan
 
   met-line : (text : List ℕ) → Begins bytes cursor text → Endless text → met bytes cursor ≡ ended cursor (cursor .place + suc (length text)) (foldl takes Empty text)
   met-line text begins endless =
       sym
-      (scan-ended (record { digest = foldl takes Empty text; end = cursor .place + length text; next = cursor .place + suc (length text) })
+      (scan-met (record { digest = foldl takes Empty text; end = cursor .place + length text; next = cursor .place + suc (length text) }) true
       (ap₂ (λ (l : List ℕ) (n : ℕ). record { digest = foldl takes Empty l; end = cursor .place + length l; next = cursor .place + n })
       (sym (ap lineOf (begins .splits) ∙ line-of text (begins .rest) endless))
       (sym (ap wholeLine (begins .splits) ∙ whole-line text (begins .rest) endless)))
-      (omega arith))
+      (lt-ltb (cursor .place + length text) (cursor .place + suc (length text)) (omega arith)))
 
   met-unended : (found : Unended (drop (cursor .place) bytes) (lineOf (drop (cursor .place) bytes)) (wholeLine (drop (cursor .place) bytes))) → met bytes cursor ≡ unended cursor (cursor .place + length (drop (cursor .place) bytes))
   met-unended found =
       sym
-      (scan-unended (record { digest = foldl takes Empty rest; end = cursor .place + length rest; next = cursor .place + length rest })
+      (scan-met (record { digest = foldl takes Empty rest; end = cursor .place + length rest; next = cursor .place + length rest }) false
       (ap₂ (λ (l : List ℕ) (n : ℕ). record { digest = foldl takes Empty l; end = cursor .place + length l; next = cursor .place + n }) (found .all) (sym (found .is-whole)))
-      (omega arith))
+      (le-ltb (cursor .place + length rest) (cursor .place + length rest) (omega arith)))
     where
       rest : List ℕ
       rest = drop (cursor .place) bytes

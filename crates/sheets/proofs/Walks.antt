@@ -2,7 +2,7 @@
 -- the sheet. Assumes nothing.
 use mathlib.Core.Path.{_≡_, refl, sym, ap, subst, _∙_}
 use mathlib.Core.List.{List, [], _∷_}
-use Prim.Native.Nat.{ℕ, _≤_, _<_}
+use Prim.Native.Nat.{ℕ, suc, _+_, _≤_, _<_}
 use native.Mathlib.Omega.{arith}
 use lib.ListN.{length}
 use Rattle.sheets.specs.declared.cursors.State.{State}
@@ -12,7 +12,7 @@ use Rattle.sheets.specs.declared.cursors.Next.the-variants as Next
 use Rattle.sheets.specs.declared.lines.Line.{Line}
 use Rattle.sheets.specs.declared.lines.Line.the-variants.{Count, Told}
 use Rattle.sheets.specs.Grammar.{decimal, pairText}
-use Rattle.sheets.specs.Reading.{CountLine, StateLine, Here, Comes, behind-count, here, Reads}
+use Rattle.sheets.specs.Reading.{Begins, CountLine, StateLine, Here, Comes, behind-count, here, Reads}
 use Rattle.sheets.proofs.Splits.{ends-inside}
 use Rattle.sheets.proofs.Meets.{count-met, here-met}
 
@@ -79,17 +79,16 @@ module _ (bytes : List ℕ) where
     pub on : cursor .place < after .place
     pub inside : after .place ≤ length bytes
 
+  moves-behind : (cursor after : Cursor) (text : List ℕ) → Begins bytes cursor text → after .place ≡ cursor .place + suc (length text) → Moves cursor after
+  moves-behind cursor after text begins place =
+      let ends = ends-inside bytes (cursor .place) text (begins .rest) (begins .splits) in
+      record { on = omega arith; inside = omega arith }
+
   count-moves : (cursor after : Cursor) → CountLine bytes cursor after → Moves cursor after
-  count-moves cursor after line =
-      let place = ap (λ (c : Cursor). c .place) (line .moves) in
-      let ends = ends-inside bytes (cursor .place) (decimal (line .count)) (line .begins .rest) (line .begins .splits) in
-      record { on = omega (arith, place); inside = omega (arith, place, ends) }
+  count-moves cursor after line = moves-behind cursor after (decimal (line .count)) (line .begins) (ap (λ (c : Cursor). c .place) (line .moves))
 
   state-moves : (cursor : Cursor) (state : State) (after : Cursor) → StateLine bytes cursor state after → Moves cursor after
-  state-moves cursor state after line =
-      let place = ap (λ (c : Cursor). c .place) (line .moves) in
-      let ends = ends-inside bytes (cursor .place) (pairText (line .pair)) (line .begins .rest) (line .begins .splits) in
-      record { on = omega (arith, place); inside = omega (arith, place, ends) }
+  state-moves cursor state after line = moves-behind cursor after (pairText (line .pair)) (line .begins) (ap (λ (c : Cursor). c .place) (line .moves))
 
   pub comes-moves : {cursor : Cursor} {state : State} {after : Cursor} → Comes bytes cursor (Next.State state after) → Moves cursor after
   comes-moves {cursor} {state} {after} (behind-count {after = between} line comes) =

@@ -1,7 +1,9 @@
 -- `sheets::lines::line_at` meets its contract: the line's end is inside the sheet or not, as the definition has it. Assumes nothing.
 use mathlib.Core.Path.{_∙_}
+use mathlib.Core.Bool.{true, false}
 use borrow.Author.Needs.{needs}
-use Rattle.sheets.proofs.Meets.{scan-ended, scan-unended}
+use borrow.Author.Tests.{lt-ltb, le-ltb}
+use Rattle.sheets.proofs.Meets.{scan-met}
 use Rattle.sheets.proofs.lines.line_at.Statement.{statement}
 use Rattle.sheets.proofs.lines.line_at.Tie as tie
 
@@ -12,13 +14,13 @@ ended-line-requires : tie.Need-ended-line-requires
 ended-line-requires c κs = search needs
 
 returns : tie.Need-returns
-returns c = c .ended-line .ensures ∙ scan-ended _ _ (c .before .before .scan .result) (c .before .before .scan .ensures) (c .before .if1 .taken)
+returns c = c .ended-line .ensures ∙ scan-met _ _ (c .before .before .scan .result) true (c .before .before .scan .ensures) (lt-ltb _ _ (c .before .if1 .taken))
 
 unended-line-requires : tie.Need-unended-line-requires
 unended-line-requires c κs = search needs
 
 returns-2 : tie.Need-returns-2
-returns-2 c = c .unended-line .ensures ∙ scan-unended _ _ (c .before .before .scan .result) (c .before .before .scan .ensures) (c .before .if1 .left)
+returns-2 c = c .unended-line .ensures ∙ scan-met _ _ (c .before .before .scan .result) false (c .before .before .scan .ensures) (le-ltb _ _ (c .before .if1 .left))
 
 pub line-at-spec : {M : Type 1} → statement M
 line-at-spec =
