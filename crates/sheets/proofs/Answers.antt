@@ -17,7 +17,7 @@ use Rattle.sheets.specs.declared.digests.Digest.the-variants.{Empty}
 use Rattle.sheets.specs.declared.digests.Scanned.{Scanned}
 use Rattle.sheets.specs.Grammar.{statesFrom, sumOfCounts}
 use Rattle.sheets.specs.Reading.{start, Comes, lineOf}
-use Rattle.sheets.specs.Replies.{Fits, NextIs, GoodWith, FaultAt, ReadsAs, shownAt, shown, ShowsBack}
+use Rattle.sheets.specs.Replies.{mostBytes, Fits, TooLong, NextIs, GoodWith, FaultAt, ReadsAs, shownAt, shown, ShowsBack}
 use Rattle.sheets.specs.Digests.{wholeLine, scans}
 use Rattle.sheets.specs.Inside.{zeros, Counted, Finds}
 use Rattle.sheets.proofs.Splits.{take-line, inside}
@@ -29,6 +29,9 @@ next-is bytes cursor (Next.State state after) fits comes = record { fits = fits;
 next-is bytes cursor Next.Over fits comes = record { fits = fits; comes = comes }
 next-is bytes cursor (Next.Malformed place) fits comes = record { fits = fits; comes = comes }
 next-is bytes cursor Next.TooLong fits comes = absurd (never-too-long bytes comes)
+
+pub too-long : {bytes : List ℕ} → mostBytes < length bytes → TooLong bytes
+too-long long = record { long = long }
 
 getD-getElem : (states : List State) (k : ℕ) → k < length states → getElem? states k ≡ some (getD states k zeros)
 getD-getElem [] k inside = absurd (not-suc-le-zero inside)

@@ -10,7 +10,7 @@ use Rattle.sheets.specs.declared.lines.Line.the-variants.{Count, Told}
 use Rattle.sheets.specs.Grammar.{sections}
 use Rattle.sheets.specs.Reading.{CountLine, Here, Comes, behind-count, here}
 use Rattle.sheets.proofs.Meets.{stands-as}
-use Rattle.sheets.proofs.Answers.{next-is}
+use Rattle.sheets.proofs.Answers.{too-long, next-is}
 use Rattle.sheets.proofs.cursors.Cursor.next.Statement.{statement}
 use Rattle.sheets.proofs.cursors.Cursor.next.Tie as tie
 
@@ -27,7 +27,7 @@ here-line : (c : tie.After-known-told2 Inv-loop μ-loop) → Here (c .before .be
 here-line c = stands-as _ _ (Told _) (sym (c .before .next .given .1) ∙ c .before .before .before .line-at .ensures)
 
 returns : tie.Need-returns Inv-loop μ-loop
-returns c = record { long = c .if1 .taken }
+returns c = too-long (c .if1 .taken)
 
 loop-holds : tie.Need-loop-holds Inv-loop μ-loop
 loop-holds c = λ next comes. comes
