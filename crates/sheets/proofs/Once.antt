@@ -9,7 +9,7 @@ use lib.ListN.{length, drop}
 use lib.Seq.{append-snoc, drop-append-add}
 use Rattle.sheets.specs.declared.digests.Digest.{Digest}
 use Rattle.sheets.specs.declared.digests.Digest.the-variants.{Empty, First, AfterSpace, Second, Bad}
-use Rattle.sheets.specs.Grammar.{lineEnd, decimal, Writable, Pair, WritablePair, pairText, line, stateLines, section, sheet, EachWritable, EachSection}
+use Rattle.sheets.specs.Grammar.{mostStates, lineEnd, decimal, Writable, Pair, WritablePair, pairText, line, stateLines, section, sheet, EachWritable, EachSection}
 use Rattle.sheets.specs.Digests.{takes}
 use Rattle.sheets.proofs.Texts.{first-read, pair-read}
 use Rattle.sheets.proofs.Splits.{Endless, endless-decimal, endless-pair, lines-apart}
@@ -88,8 +88,8 @@ sheet-once (pairs ∷ lists) (pairs′ ∷ lists′) each each′ long same =
     apart (decimal (length pairs)) (decimal (length pairs′)) (stateLines pairs ++ sheet lists) (stateLines pairs′ ++ sheet lists′)
     (endless-decimal (length pairs)) (endless-decimal (length pairs′))
     (sym (append-assoc (line (decimal (length pairs))) (stateLines pairs) (sheet lists)) ∙ same ∙ append-assoc (line (decimal (length pairs′))) (stateLines pairs′) (sheet lists′)) in
-    let few : length pairs ≤ 1000 = each .0 .count in
-    let few′ : length pairs′ ≤ 1000 = each′ .0 .count in
+    let few : length pairs ≤ mostStates = each .0 .count in
+    let few′ : length pairs′ ≤ mostStates = each′ .0 .count in
     let own =
     states-once pairs pairs′ (sheet lists) (sheet lists′) (each .0 .states) (each′ .0 .states)
     (decimal-once (length pairs) (length pairs′) (omega arith) (omega arith) (count .same-text)) (count .same-rest) in
