@@ -11,6 +11,7 @@ use Rattle.sheets.specs.declared.cursors.State.{State}
 abbrev pub sections : ℕ
 sections = 2
 
+-- of a section
 abbrev pub mostStates : ℕ
 mostStates = 1000
 
@@ -34,7 +35,7 @@ unfoldable pub digits : (places number : ℕ) → List ℕ
 digits zero number = []
 digits (suc places) number = behind (ltb number 10) number (digits places (number / 10))
 
--- one to ten digits
+-- at most ten digits
 abbrev pub Writable : ℕ → Type 0
 Writable number = number < 10000000000
 

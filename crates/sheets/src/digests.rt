@@ -12,9 +12,11 @@ const ZERO: u8 = 48;
 
 const NINE: u8 = 57;
 
-// A number below this has at most nine digits, so it may take one more.
+// The smallest number of ten digits: any below it may take one more.
 const TEN_DIGITS: u64 = 1_000_000_000;
 
+// Nothing yet; one number, and so a count line; that and its space; two numbers, and so a state line; or
+// bytes that no line of a sheet begins with.
 pub(crate) enum Digest {
     Empty,
     First(u64),
@@ -23,6 +25,7 @@ pub(crate) enum Digest {
     Bad,
 }
 
+// A number with one digit more, or no number.
 pub(crate) enum Number {
     Is(u64),
     None,

@@ -48,7 +48,8 @@ fn count_line(cursor: Cursor, next: usize, count: u64) -> Line
     })
 }
 
-// A section's fluid is its number, from 0. No section has been left open before the first was begun.
+// A section's fluid is its number, from 0. Where no section was begun no state line is wanted, and the 0
+// tells nothing.
 fn fluid_of(begun: u64) -> u64
     ensures { λ r. ⌜ r ≡ begun - 1 ⌝ }
 {
