@@ -19,7 +19,7 @@ use Rattle.sheets.specs.Replies as sheets
 use Rattle.sheets.proofs.Passed.{Passed, none-passed, one-passed, all-passed}
 use Rattle.sheets.proofs.Written.{read-good}
 use Rattle.sheet.specs.Prints.{LineText, LinesText, FaultText, Prints}
-use Rattle.sheet.specs.Buffer.{Puts}
+use Rattle.sheet.specs.Buffer.{longestLine, longestText, Puts}
 
 -- one line more
 lines-on : (states : List State) (state : State) (text line : List ℕ) → LinesText states text → LineText state line → LinesText (states ++ (state ∷ [])) (text ++ line)
@@ -36,7 +36,7 @@ pub record Gathered (bytes before : List ℕ) (cursor : Cursor) (buffer : List �
   pub states : List State
   pub passed : Passed bytes cursor states
   pub are-lines : LinesText states (take end buffer)
-  pub short : end ≤ 48 * length states
+  pub short : end ≤ longestLine * length states
   pub same-length : length buffer ≡ length before
 
 pub begins : (bytes before : List ℕ) → Gathered bytes before start before 0
@@ -46,7 +46,7 @@ begins bytes before = record { states = []; passed = none-passed bytes; are-line
 counts : (buffer : List ℕ) (next : ℕ) → next ≤ length buffer → Counts next buffer
 counts buffer next inside = (inside, sym (length-take-le next buffer inside))
 
-module _ {bytes before : List ℕ} {cursor : Cursor} {buffer : List ℕ} {end : ℕ} (gathered : Gathered bytes before cursor buffer end) (large : 96000 ≤ length before) where
+module _ {bytes before : List ℕ} {cursor : Cursor} {buffer : List ℕ} {end : ℕ} (gathered : Gathered bytes before cursor buffer end) (large : longestText ≤ length before) where
   within : end ≤ length buffer
   within =
       let room = gathered .passed .room in
@@ -57,12 +57,12 @@ module _ {bytes before : List ℕ} {cursor : Cursor} {buffer : List ℕ} {end : 
     on = one-passed bytes (gathered .states) state after (gathered .passed) comes
 
     -- the line that comes has room
-    pub has-room : end + 48 ≤ length buffer
+    pub has-room : end + longestLine ≤ length buffer
     has-room =
         let room = on .room in
         omega (arith, gathered .short, gathered .same-length, room .states, room .begun, length-append (gathered .states) (state ∷ []))
 
-    pub gathers : {later : List ℕ} {next : ℕ} → Puts (LineText state) 48 buffer end later next → Gathered bytes before after later next
+    pub gathers : {later : List ℕ} {next : ℕ} → Puts (LineText state) longestLine buffer end later next → Gathered bytes before after later next
     gathers puts =
         record {
           states = gathered .states ++ (state ∷ []);
@@ -92,11 +92,11 @@ module _ {bytes before : List ℕ} {cursor : Cursor} {buffer : List ℕ} {end : 
 
   module _ {later : List ℕ} {next : ℕ} where
     -- a fault is put at the start of the buffer, over any lines
-    alone : (reading : Reading) (puts : Puts (FaultText reading) 48 buffer 0 later next) → Counts next later × FaultText reading (take next later)
+    alone : (reading : Reading) (puts : Puts (FaultText reading) longestLine buffer 0 later next) → Counts next later × FaultText reading (take next later)
     alone reading puts =
         (counts later next (omega (arith, puts .short, puts .reaches, puts .same-length, gathered .same-length)), subst (FaultText reading) (sym (puts .stands)) (puts .is-text))
 
-    pub prints-fault : (place : ℕ) → NextIn bytes cursor (Next.Malformed place) → Puts (FaultText (Malformed place)) 48 buffer 0 later next → Counts next later × Prints bytes (take next later)
+    pub prints-fault : (place : ℕ) → NextIn bytes cursor (Next.Malformed place) → Puts (FaultText (Malformed place)) longestLine buffer 0 later next → Counts next later × Prints bytes (take next later)
     prints-fault place next-in puts =
         let told = alone (Malformed place) puts in (
           told .0,
@@ -107,5 +107,5 @@ module _ {bytes before : List ℕ} {cursor : Cursor} {buffer : List ℕ} {end : 
           },
         )
 
-    pub prints-too-long : sheets.TooLong bytes → Puts (FaultText TooLong) 48 buffer 0 later next → Counts next later × Prints bytes (take next later)
+    pub prints-too-long : sheets.TooLong bytes → Puts (FaultText TooLong) longestLine buffer 0 later next → Counts next later × Prints bytes (take next later)
     prints-too-long long puts = let told = alone TooLong puts in (told .0, record { reading = TooLong; reads-as = long; is-text = told .1 })

@@ -10,15 +10,14 @@ use Rattle.sheets.specs.Grammar.{space, lineEnd}
 use Rattle.sheet.specs.Texts.{Digits, LastNumber, OneNumber, TwoNumbers}
 use Rattle.sheet.proofs.Buffers.{Both}
 
--- a number of 64 bits is below 10 ^ 20, so its fewest digits are at most 20
-pub twenty-digits : (number places : ℕ) → number < 18446744073709551616 → Fewest 10 1 number places → places ≤ 20
-twenty-digits number places below fewest = few-or-many (decLe places 20)
+-- a number below a power of ten has no more digits than that has zeros
+pub no-more-digits : (number places zeros : ℕ) → Fewest 10 1 number places → 1 ≤ zeros → number < 10 ^ zeros → places ≤ zeros
+no-more-digits number places zeros fewest some below = few-or-many (decLe places zeros)
   where
-    few-or-many : Dec (places ≤ 20) → places ≤ 20
+    few-or-many : Dec (places ≤ zeros) → places ≤ zeros
     few-or-many (yes few) = few
     few-or-many (no many) =
-        let more : 20 ≤ places - 1 = omega arith in
-        let power : 100000000000000000000 ≤ 10 ^ (places - 1) = pow-le-pow-right {n = 10} (omega arith) more in
+        let power : 10 ^ zeros ≤ 10 ^ (places - 1) = pow-le-pow-right {n = 10} (omega arith) (omega arith) in
         absurd (omega (arith, power, fewest .2 (omega arith)))
 
 -- exactly these bytes

@@ -1,11 +1,9 @@
 -- What the program prints is fixed by its input: two texts that meet the contract of `sheet::output::print` are equal. Assumes nothing.
 use mathlib.Core.Path.{_≡_, sym, ap, ap₂, subst, _∙_}
 use mathlib.Core.List.{List, [], _∷_, _++_}
-use Prim.Native.Nat.{ℕ, _-_, _^_, _≤_}
-use native.Mathlib.Nat.{pow-le-pow-right}
-use native.Mathlib.Decide.{decLe}
+use Prim.Native.Nat.{ℕ}
 use native.Mathlib.Omega.{arith}
-use Rattle.io.specs.Digits.{digits, Fewest}
+use Rattle.io.specs.Digits.{digits}
 use Rattle.state.specs.declared.replies.Reply.{Reply}
 use Rattle.state.specs.declared.replies.Reply.the-variants.{One, Split, NoSuchFluid, TemperatureOutOfRange, PressureOutOfRange, NoSuchSlot}
 use Rattle.state.proofs.Theorems.{reply-determined}
@@ -16,21 +14,13 @@ use Rattle.sheets.specs.Grammar.{Pair, statesFrom, space, lineEnd}
 use Rattle.sheets.proofs.Theorems.{reading-determined, written-once}
 use Rattle.sheet.specs.Texts.{Digits, LastNumber, OneNumber, TwoNumbers}
 use Rattle.sheet.specs.Prints.{ReplyText, LineText, LinesText, ReadingText, Prints}
-
--- a number's fewest digits are one number of digits
-no-fewer : (number places places′ : ℕ) → Fewest 10 1 number places → Fewest 10 1 number places′ → places′ ≤ places
-no-fewer number places places′ fewest fewest′ = few-or-many (decLe places′ places)
-  where
-    few-or-many : Dec (places′ ≤ places) → places′ ≤ places
-    few-or-many (yes few) = few
-    few-or-many (no many) =
-        let more : places ≤ places′ - 1 = omega arith in
-        let power : 10 ^ places ≤ 10 ^ (places′ - 1) = pow-le-pow-right {n = 10} (omega arith) more in
-        absurd (omega (arith, power, fewest .1, fewest′ .2 (omega (arith, fewest .0))))
+use Rattle.sheet.proofs.Lines.{no-more-digits}
 
 digits-once : (number : ℕ) (text text′ : List ℕ) → Digits number text → Digits number text′ → text ≡ text′
 digits-once number text text′ one other =
-    let same : one .places ≡ other .places = omega (arith, no-fewer number (one .places) (other .places) (one .fewest) (other .fewest), no-fewer number (other .places) (one .places) (other .fewest) (one .fewest)) in
+    let no-more = no-more-digits number (one .places) (other .places) (one .fewest) (other .fewest .0) (other .fewest .1) in
+    let no-fewer = no-more-digits number (other .places) (one .places) (other .fewest) (one .fewest .0) (one .fewest .1) in
+    let same : one .places ≡ other .places = omega arith in
     one .is-text ∙ ap (λ (places : ℕ). digits 10 places number) same ∙ sym (other .is-text)
 
 last-once : (number : ℕ) (text text′ : List ℕ) → LastNumber number text → LastNumber number text′ → text ≡ text′

@@ -4,7 +4,7 @@ ghost use Prim.Native.Nat.{_+_, _≤_};
 ghost use lib.ListN.{length, take};
 ghost use Rattle.io.specs.Counts.{Counts};
 ghost use Rattle.sheet.specs.Prints.{LineText, FaultText, Prints};
-ghost use Rattle.sheet.specs.Buffer.{Puts};
+ghost use Rattle.sheet.specs.Buffer.{longestLine, longestText, Puts};
 use crate::texts::put_one;
 use crate::texts::put_two;
 use sheets::Cursor;
@@ -16,8 +16,8 @@ use sheets::State;
 const ONE: u64 = 1;
 
 fn put_state(buffer: &mut [u8], at: usize, state: State) -> usize
-    requires { ⌜ at + 48 ≤ length (now buffer) ⌝ }
-    ensures { λ r. ⌜ Puts (LineText state) 48 (now (buffer .entry)) at (now (buffer .exit)) r ⌝ }
+    requires { ⌜ at + longestLine ≤ length (now buffer) ⌝ }
+    ensures { λ r. ⌜ Puts (LineText state) longestLine (now (buffer .entry)) at (now (buffer .exit)) r ⌝ }
 {
     let reply = state::ask(state.fluid, state.millikelvin, state.pascals);
     let figures = reply.figures();
@@ -33,8 +33,8 @@ fn put_state(buffer: &mut [u8], at: usize, state: State) -> usize
 }
 
 fn put_fault(buffer: &mut [u8], fault: Reading) -> usize
-    requires { ⌜ 48 ≤ length (now buffer) ⌝ }
-    ensures { λ r. ⌜ Puts (FaultText fault) 48 (now (buffer .entry)) 0 (now (buffer .exit)) r ⌝ }
+    requires { ⌜ longestLine ≤ length (now buffer) ⌝ }
+    ensures { λ r. ⌜ Puts (FaultText fault) longestLine (now (buffer .entry)) 0 (now (buffer .exit)) r ⌝ }
 {
     let figures = fault.figures();
     let place = figures.place as u64;
@@ -43,7 +43,7 @@ fn put_fault(buffer: &mut [u8], fault: Reading) -> usize
 
 // A sheet has at most 2,000 state lines, so the text never outgrows the buffer.
 pub(crate) fn print(sheet: &[u8], buffer: &mut [u8]) -> usize
-    requires { ⌜ 96000 ≤ length (now buffer) ⌝ }
+    requires { ⌜ longestText ≤ length (now buffer) ⌝ }
     ensures { λ r. ⌜ Counts r (now (buffer .exit)) ⌝ }
     ensures { λ r. ⌜ Prints (now (sheet .entry)) (take r (now (buffer .exit))) ⌝ }
 {

@@ -3,14 +3,14 @@ ghost use mathlib.Core.Path.{_≡_};
 ghost use Prim.Native.Nat.{_+_, _≤_};
 ghost use lib.ListN.{length};
 ghost use Rattle.sheet.specs.Texts.{Digits, LastNumber, OneNumber, TwoNumbers};
-ghost use Rattle.sheet.specs.Buffer.{Puts};
+ghost use Rattle.sheet.specs.Buffer.{longestLine, Puts};
 
 fn put(buffer: &mut [u8], at: usize, text: &[u8]) -> usize
     requires { ⌜ at + length (now text) ≤ length (now buffer) ⌝ }
     ensures { λ r. ⌜ Puts (λ t. t ≡ now (text .entry)) (length (now (text .entry))) (now (buffer .entry)) at (now (buffer .exit)) r ⌝ }
 {
-    let put = bytes::copy(text, &mut buffer[at..]);
-    at + put
+    let copied = bytes::copy(text, &mut buffer[at..]);
+    at + copied
 }
 
 // A number of 64 bits has at most 20 digits.
@@ -34,16 +34,16 @@ fn put_last_number(buffer: &mut [u8], at: usize, number: u64) -> usize
 
 // A line has room for a word of five letters and two numbers.
 pub(crate) fn put_one(buffer: &mut [u8], at: usize, word: &[u8], number: u64) -> usize
-    requires { ⌜ (at + 48 ≤ length (now buffer)) × (length (now word) ≤ 5) ⌝ }
-    ensures { λ r. ⌜ Puts (OneNumber (now (word .entry)) number) 48 (now (buffer .entry)) at (now (buffer .exit)) r ⌝ }
+    requires { ⌜ (at + longestLine ≤ length (now buffer)) × (length (now word) ≤ 5) ⌝ }
+    ensures { λ r. ⌜ Puts (OneNumber (now (word .entry)) number) longestLine (now (buffer .entry)) at (now (buffer .exit)) r ⌝ }
 {
     let last = put(buffer, at, word);
     put_last_number(buffer, last, number)
 }
 
 pub(crate) fn put_two(buffer: &mut [u8], at: usize, word: &[u8], first: u64, second: u64) -> usize
-    requires { ⌜ (at + 48 ≤ length (now buffer)) × (length (now word) ≤ 5) ⌝ }
-    ensures { λ r. ⌜ Puts (TwoNumbers (now (word .entry)) first second) 48 (now (buffer .entry)) at (now (buffer .exit)) r ⌝ }
+    requires { ⌜ (at + longestLine ≤ length (now buffer)) × (length (now word) ≤ 5) ⌝ }
+    ensures { λ r. ⌜ Puts (TwoNumbers (now (word .entry)) first second) longestLine (now (buffer .entry)) at (now (buffer .exit)) r ⌝ }
 {
     let spaced = put(buffer, at, word);
     let digits = put(buffer, spaced, b" ");

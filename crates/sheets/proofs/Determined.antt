@@ -18,15 +18,10 @@ use Rattle.sheets.specs.declared.replies.LineReading.the-variants as Lin
 use Rattle.sheets.specs.Grammar.{Pair, Good, statesFrom, sumOfCounts}
 use Rattle.sheets.specs.Reading.{start, Comes}
 use Rattle.sheets.specs.Replies.{Fits, TooLong, NextIs, FaultAt, ReadsAs, LineReadsAs}
+use Rattle.sheets.proofs.Meets.{kindOf}
 use Rattle.sheets.proofs.Walks.{comes-determined, reads-determined}
 use Rattle.sheets.proofs.Written.{good-read, states-counted}
 use Rattle.sheets.proofs.Once.{sheet-once}
-
-abbrev kind : Next → ℕ
-kind (Next.State state after) = 0
-kind Next.Over = 1
-kind (Next.Malformed place) = 2
-kind Next.TooLong = 3
 
 abbrev placeOf : Next → ℕ
 placeOf (Next.State state after) = 0
@@ -51,7 +46,7 @@ module _ (bytes : List ℕ) where
   pub good-or-fault : (lists : List (List Pair)) (place : ℕ) → Good bytes lists → FaultAt bytes place → ⊥
   good-or-fault lists place good fault =
       let same = reads-determined bytes start (fault .before) (statesFrom 0 lists) (Next.Malformed place) Next.Over tt tt (fault .reads) (good-read bytes lists good) in
-      omega (arith, ap kind (same .same-last))
+      omega (arith, ap kindOf (same .same-last))
 
   pub one-choice : (lists lists′ : List (List Pair)) → Good bytes lists → Good bytes lists′ → lists ≡ lists′
   one-choice lists lists′ good good′ =

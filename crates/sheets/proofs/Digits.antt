@@ -9,7 +9,7 @@ use borrow.Author.Tests.{ltb-false, leb-false, eqb-false, lt-ltb, le-ltb, lt-leb
 use Rattle.sheets.specs.declared.digests.Number.{Number}
 use Rattle.sheets.specs.declared.digests.Number.the-variants.{Is, None}
 use Rattle.sheets.specs.Grammar.{digit, behind, digits, decimal}
-use Rattle.sheets.specs.Digests.{opens, behindDigits, grows}
+use Rattle.sheets.specs.Digests.{tenDigits, opens, behindDigits, grows}
 
 -- the byte is this digit
 pub record IsDigit (byte value : ℕ) : Type 0 where
@@ -21,7 +21,7 @@ pub record Grown (number byte next : ℕ) : Type 0 where
   pub value : ℕ
   pub is-digit : IsDigit byte value
   pub not-zero : 0 < number
-  pub has-room : number < 1000000000
+  pub has-room : number < tenDigits
   pub is-next : next ≡ 10 * number + value
 
 abbrev pub Told : Number → (byte : ℕ) → Type 0
@@ -56,21 +56,21 @@ GrownTold (Is next) number byte = Grown number byte next
 pub grows-told : (number byte : ℕ) → GrownTold (grows number byte) number byte
 grows-told number byte = zero-or-not (eqb number 0) refl
   where
-    by-digit : (read : Number) → Told read byte → 0 < number → number < 1000000000 → GrownTold (behindDigits number read) number byte
+    by-digit : (read : Number) → Told read byte → 0 < number → number < tenDigits → GrownTold (behindDigits number read) number byte
     by-digit None told positive room = tt
     by-digit (Is value) told positive room = record { value = value; is-digit = told; not-zero = positive; has-room = room; is-next = refl }
 
-    full-or-not : (t : Bool) → 0 < number → leb 1000000000 number ≡ t → GrownTold (cond t None (behindDigits number (opens byte))) number byte
+    full-or-not : (t : Bool) → 0 < number → leb tenDigits number ≡ t → GrownTold (cond t None (behindDigits number (opens byte))) number byte
     full-or-not true positive e = tt
-    full-or-not false positive e = by-digit (opens byte) (opens-told byte) positive (leb-false 1000000000 number e)
+    full-or-not false positive e = by-digit (opens byte) (opens-told byte) positive (leb-false tenDigits number e)
 
-    zero-or-not : (t : Bool) → eqb number 0 ≡ t → GrownTold (cond t None (cond (leb 1000000000 number) None (behindDigits number (opens byte)))) number byte
+    zero-or-not : (t : Bool) → eqb number 0 ≡ t → GrownTold (cond t None (cond (leb tenDigits number) None (behindDigits number (opens byte)))) number byte
     zero-or-not true e = tt
-    zero-or-not false e = let not-zero = eqb-false number 0 e in full-or-not (leb 1000000000 number) (omega arith) refl
+    zero-or-not false e = let not-zero = eqb-false number 0 e in full-or-not (leb tenDigits number) (omega arith) refl
 
-pub grows-digit : (number value : ℕ) → 0 < number → number < 1000000000 → value < 10 → grows number (digit value) ≡ Is (10 * number + value)
+pub grows-digit : (number value : ℕ) → 0 < number → number < tenDigits → value < 10 → grows number (digit value) ≡ Is (10 * number + value)
 grows-digit number value positive room small =
-    simp (ne-eqb number 0 (λ e. omega arith), lt-leb 1000000000 number room, opens-digit value small)
+    simp (ne-eqb number 0 (λ e. omega arith), lt-leb tenDigits number room, opens-digit value small)
 
 -- the numbers that `suc places` digits can write are those below `10 * room places`
 abbrev pub room : (places : ℕ) → ℕ
@@ -99,7 +99,7 @@ digits-next places number value positive small =
     let last : (10 * number + value) % 10 ≡ value = omega arith in
     simp (le-ltb (10 * number + value) 10 many, tenth, last)
 
-pub decimal-next : (number value : ℕ) → 0 < number → number < 1000000000 → value < 10 → decimal (10 * number + value) ≡ decimal number ++ (digit value ∷ [])
+pub decimal-next : (number value : ℕ) → 0 < number → number < tenDigits → value < 10 → decimal (10 * number + value) ≡ decimal number ++ (digit value ∷ [])
 unfolding decimal
 decimal-next number value positive has-room small =
     digits-next 9 number value positive small ∙ ap (λ (l : List ℕ). l ++ (digit value ∷ [])) (enough 8 number has-room)

@@ -25,13 +25,16 @@ use Rattle.sheets.specs.Lines.{faulty, counted, stated, ended, unended, 
 use Rattle.sheets.proofs.Texts.{Spells, SpellsPair, Means, pair-means, digest-means, first-read, pair-read}
 use Rattle.sheets.proofs.Splits.{Endless, endless-decimal, endless-pair, line-of, whole-line, Ended, Unended, split}
 
--- lines of different kinds are different
-abbrev pub kind : Line → ℕ
+-- what comes next is of four kinds, which are different, and none is a count line
+abbrev pub kindOf : Next → ℕ
+kindOf (Next.State state after) = 1
+kindOf Next.Over = 2
+kindOf (Next.Malformed place) = 3
+kindOf Next.TooLong = 4
+
+abbrev kind : Line → ℕ
 kind (Count after) = 0
-kind (Told (Next.State state after)) = 1
-kind (Told Next.Over) = 2
-kind (Told (Next.Malformed place)) = 3
-kind (Told Next.TooLong) = 4
+kind (Told next) = kindOf next
 
 module _ (bytes : List ℕ) (cursor : Cursor) where
   -- what is met is told by the scan from the cursor on: whether its line has its end

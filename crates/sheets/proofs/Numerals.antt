@@ -11,7 +11,7 @@ use lib.ListN.{length, length-append}
 use borrow.Author.Tests.{ltb-true, ltb-false, lt-ltb, ne-eqb}
 use Rattle.sheets.specs.declared.digests.Digest.{Digest}
 use Rattle.sheets.specs.declared.digests.Digest.the-variants.{Empty, First}
-use Rattle.sheets.specs.Grammar.{space, digit, behind, digits, decimal, Writable}
+use Rattle.sheets.specs.Grammar.{elevenDigits, space, digit, behind, digits, decimal, Writable}
 use Rattle.sheets.specs.Numerals.{EachDigit, Numeral, readsOn, valueOf}
 use Rattle.sheets.specs.Digests.{opens, grows, firstOf, takes}
 use Rattle.sheets.proofs.Digits.{opens-digit, grows-digit, room}
@@ -111,10 +111,10 @@ value-of-decimal = decimal-read value-reader
 
 -- a number below this has room for so many digits more
 abbrev limit : (more : ℕ) → ℕ
-limit zero = 10000000000
+limit zero = elevenDigits
 limit (suc more) = limit more / 10
 
-limit-small : (more : ℕ) → limit more ≤ 10000000000
+limit-small : (more : ℕ) → limit more ≤ elevenDigits
 limit-small zero = omega arith
 limit-small (suc more) = let below = limit-small more in omega arith
 

@@ -11,8 +11,8 @@ use Rattle.sheets.specs.declared.digests.Digest.{Digest}
 use Rattle.sheets.specs.declared.digests.Digest.the-variants.{Empty, First, AfterSpace, Second, Bad}
 use Rattle.sheets.specs.declared.digests.Number.{Number}
 use Rattle.sheets.specs.declared.digests.Number.the-variants.{Is, None}
-use Rattle.sheets.specs.Grammar.{space, digit, behind, digits, decimal, Writable, Pair, WritablePair, pairText}
-use Rattle.sheets.specs.Digests.{opens, grows, firstOf, secondOf, takes}
+use Rattle.sheets.specs.Grammar.{elevenDigits, space, digit, behind, digits, decimal, Writable, Pair, WritablePair, pairText}
+use Rattle.sheets.specs.Digests.{tenDigits, opens, grows, firstOf, secondOf, takes}
 use Rattle.sheets.proofs.Digits.{Told, opens-told, opens-digit, GrownTold, grows-told, grows-digit, room, decimal-digit, decimal-next}
 
 -- the text is this number
@@ -112,15 +112,15 @@ digest-means text = means-all text [] Empty refl
 -- the other way: whatever reads a number from some beginning, digit by digit, holds the number behind its decimal
 pub record Reader {D : Type 0} (step : D → ℕ → D) (begin : D) (holds : ℕ → D) : Type 0 where
   pub opens-to : (value : ℕ) → value < 10 → step begin (digit value) ≡ holds value
-  pub grows-to : (number value : ℕ) → 0 < number → number < 1000000000 → value < 10 → step (holds number) (digit value) ≡ holds (10 * number + value)
+  pub grows-to : (number value : ℕ) → 0 < number → number < tenDigits → value < 10 → step (holds number) (digit value) ≡ holds (10 * number + value)
 
 module _ {D : Type 0} {step : D → ℕ → D} {begin : D} {holds : ℕ → D} (reader : Reader step begin holds) where
-  digits-read : (places number : ℕ) → number < 10 * room places → 10 * room places ≤ 10000000000 → foldl step begin (digits (suc places) number) ≡ holds number
+  digits-read : (places number : ℕ) → number < 10 * room places → 10 * room places ≤ elevenDigits → foldl step begin (digits (suc places) number) ≡ holds number
   unfolding digits
   digits-read zero number below few = rw (lt-ltb number 10 below) (reader .opens-to number below)
   digits-read (suc places) number below few = one-or-more (ltb number 10) refl (digits-read places (number / 10))
     where
-      one-or-more : (t : Bool) → ltb number 10 ≡ t → (number / 10 < 10 * room places → 10 * room places ≤ 10000000000 → foldl step begin (digits (suc places) (number / 10)) ≡ holds (number / 10)) → foldl step begin (behind t number (digits (suc places) (number / 10))) ≡ holds number
+      one-or-more : (t : Bool) → ltb number 10 ≡ t → (number / 10 < 10 * room places → 10 * room places ≤ elevenDigits → foldl step begin (digits (suc places) (number / 10)) ≡ holds (number / 10)) → foldl step begin (behind t number (digits (suc places) (number / 10))) ≡ holds number
       one-or-more true e tenth = reader .opens-to number (ltb-true number 10 e)
       one-or-more false e tenth =
           let many : 10 ≤ number = ltb-false number 10 e in

@@ -12,6 +12,11 @@ use Rattle.sheets.specs.declared.digests.Scanned.{Scanned}
 use Rattle.sheets.specs.Grammar.{lineEnd, space}
 use Rattle.sheets.specs.Reading.{lineOf}
 
+-- the smallest number of ten digits
+abbrev pub tenDigits : ℕ
+tenDigits = 1000000000
+
+-- a digit's value, or no number
 abbrev pub opens : (byte : ℕ) → Number
 opens byte = cond (ltb byte 48) None (cond (ltb 57 byte) None (Is (byte - 48)))
 
@@ -20,7 +25,7 @@ behindDigits number None = None
 behindDigits number (Is digit) = Is (10 * number + digit)
 
 abbrev pub grows : (number byte : ℕ) → Number
-grows number byte = cond (eqb number 0) None (cond (leb 1000000000 number) None (behindDigits number (opens byte)))
+grows number byte = cond (eqb number 0) None (cond (leb tenDigits number) None (behindDigits number (opens byte)))
 
 abbrev pub firstOf : Number → Digest
 firstOf None = Bad

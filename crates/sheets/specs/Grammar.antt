@@ -35,9 +35,13 @@ unfoldable pub digits : (places number : ℕ) → List ℕ
 digits zero number = []
 digits (suc places) number = behind (ltb number 10) number (digits places (number / 10))
 
+-- the smallest number of eleven digits
+abbrev pub elevenDigits : ℕ
+elevenDigits = 10000000000
+
 -- at most ten digits
 abbrev pub Writable : ℕ → Type 0
-Writable number = number < 10000000000
+Writable number = number < elevenDigits
 
 unfoldable pub decimal : ℕ → List ℕ
 decimal number = digits 10 number

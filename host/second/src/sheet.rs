@@ -8,6 +8,18 @@ pub const LONGEST: usize = 65_536;
 /// How many state lines a section has at most.
 pub const LARGEST_COUNT: u64 = 1000;
 
+/// The largest number that a sheet can hold.
+pub const TEN_NINES: u64 = 9_999_999_999;
+
+/// Document 01's whole input.
+pub const EXAMPLE: &[u8] = b"1
+300000 1000000
+3
+300000 1000000
+120000 500000
+55999 500000
+";
+
 /// The byte that ends a line.
 const LINE_END: u8 = 10;
 
@@ -157,16 +169,6 @@ fn answer(state: &State) -> String {
 mod tests {
     use super::*;
     use crate::random::Random;
-
-    const EXAMPLE: &[u8] = b"1
-300000 1000000
-3
-300000 1000000
-120000 500000
-55999 500000
-";
-
-    const TEN_NINES: u64 = 9_999_999_999;
 
     /// The last is 2 to the 64th, which is 0 to whoever does not look at the carry.
     const NO_NUMBERS: [&[u8]; 22] = [

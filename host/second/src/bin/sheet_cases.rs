@@ -7,18 +7,9 @@
 //! NAME.in, and to NAME.out what is printed of it.
 
 use second::random::Random;
-use second::sheet::{print, LONGEST};
+use second::sheet::{print, EXAMPLE, LONGEST};
 use std::path::Path;
 use std::{fs, io};
-
-/// Document 01's.
-const EXAMPLE: &[u8] = b"1
-300000 1000000
-3
-300000 1000000
-120000 500000
-55999 500000
-";
 
 /// Each case a name and its sheet.
 const SHORT: &[(&str, &[u8])] = &[

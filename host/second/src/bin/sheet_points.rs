@@ -13,7 +13,7 @@
 //! largest number there is.
 
 use second::random::Random;
-use second::sheet::{faulty_line, read, state_at, state_lines};
+use second::sheet::{faulty_line, read, state_at, state_lines, EXAMPLE, TEN_NINES};
 use std::collections::HashSet;
 use std::io::{self, BufWriter, Read, Write};
 
@@ -25,18 +25,6 @@ const LARGEST_LIST: usize = 40_000;
 
 /// What ends a sheet in the list. No sheet of the list holds it.
 const SHEET_END: u8 = b'~';
-
-/// The largest number that a sheet can hold.
-const TEN_NINES: u64 = 9_999_999_999;
-
-/// Document 01's.
-const EXAMPLE: &[u8] = b"1
-300000 1000000
-3
-300000 1000000
-120000 500000
-55999 500000
-";
 
 /// The least and the greatest bytes, blanks, digits, and the neighbours of the digits.
 const BYTES: [u8; 11] = [0, 9, 10, 13, 32, 47, 48, 49, 57, 58, 255];

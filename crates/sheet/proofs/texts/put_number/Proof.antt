@@ -3,7 +3,7 @@ use mathlib.Core.Path.{_∙_}
 use native.Mathlib.Omega.{arith}
 use Prim.Native.Nat.{_≤_}
 use Rattle.sheet.proofs.Buffers.{seen-as}
-use Rattle.sheet.proofs.Lines.{twenty-digits}
+use Rattle.sheet.proofs.Lines.{no-more-digits}
 use borrow.Author.Needs.{needs}
 use Rattle.sheet.proofs.texts.put_number.Statement.{statement}
 use Rattle.sheet.proofs.texts.put_number.Tie as tie
@@ -18,7 +18,7 @@ slice-aggregate-put : tie.Need-slice-aggregate-put
 slice-aggregate-put c = search needs
 
 few : (c : tie.After-decimal) → c .decimal .result ≤ 20
-few c = twenty-digits (c .before .before .before .args .number) _ (omega arith) (c .decimal .ensures .1 .0)
+few c = no-more-digits (c .before .before .before .args .number) _ 20 (c .decimal .ensures .1 .0) (omega arith) (omega arith)
 
 put-requires : tie.Need-put-requires
 put-requires c κs = omega (arith, c .before .before .decimal .ensures .0, few (c .before .before))
