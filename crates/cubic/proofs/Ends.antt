@@ -1,12 +1,22 @@
 -- What the ends of the two searches say together: the roots, by the sides of the bend on which the searches ended. Assumes nothing.
-use Prim.Native.Nat.{ℕ, _≤_, _<_}
+use Prim.Native.Nat.{ℕ, _+_, _≤_, _<_}
 use native.Mathlib.Nat.{lt-of-not-le}
 use native.Mathlib.Omega.{arith}
 use native.Mathlib.Decide.{decLe}
 use Rattle.cubic.specs.Cubic.{GasRoot, DenseRoot}
 use Rattle.cubic.specs.Promise.{Within, BothRoots}
-use Rattle.cubic.specs.Sides.{bend, PositiveFrom, NotPositiveTo, FallsTo, ClimbsTo}
+use Rattle.cubic.specs.Sides.{bend, PositiveFrom, NotPositiveTo, FallsTo, Alone, ClimbsTo}
 use Rattle.cubic.proofs.Roots.{gas-root, dense-root, gas-is-dense, dense-is-gas}
+
+-- a crossing that is alone is both roots
+pub one-alone : {a b z : ℕ} → Within a b → FallsTo a b z → Alone a b z → BothRoots a b z z
+unfolding PositiveFrom
+one-alone {a} {b} {z} within fallen alone =
+    record {
+      within = within;
+      is-gas = gas-root a b (fallen .found (alone .from-bend)) (fallen .positive);
+      is-dense = dense-root a b (alone .not-positive) (fallen .positive (z + 1) (omega arith));
+    }
 
 module _ {a b high low : ℕ} (within : Within a b) (fallen : FallsTo a b high) (climbed : ClimbsTo a b low) where
   gas-found : bend ≤ high → GasRoot a b high

@@ -1,12 +1,13 @@
 -- The search from above: where it may begin, and what a turn of it may conclude. Assumes nothing.
 use mathlib.Core.Path.{_≡_}
 use Prim.Native.Nat.{ℕ, suc, _+_, _-_, _/_, _≤_, _<_}
+use native.Mathlib.Nat.{add-sub-cancel}
 use native.Mathlib.Numerals.{add-one}
 use native.Mathlib.Omega.{arith}
 use native.Mathlib.Decide.{decLe}
 use Rattle.cubic.specs.Cubic.{N}
-use Rattle.cubic.specs.Sides.{plus, minus, rise, bend, PositiveFrom, FallsFrom, FallsTo}
-use Rattle.cubic.proofs.Shape.{above-grid, downwards}
+use Rattle.cubic.specs.Sides.{plus, minus, rise, bend, PositiveFrom, Crosses, FallsFrom, Falling, FallsTo}
+use Rattle.cubic.proofs.Shape.{above-grid, plus-grows, minus-grows, downwards}
 use Rattle.cubic.proofs.Lines.{positive-from}
 use Rattle.cubic.proofs.Room.{Allows, flat, jump, gentle, steep}
 
@@ -26,15 +27,21 @@ module _ (a b : ℕ) where
         positive = rw add-one (positive-from a b start limit (omega arith) (rw add-one at positive));
       }
 
+  -- a crossing from the bend on is where the search from above ends
+  pub ends-at-crossing : {z : ℕ} → bend ≤ z → Crosses a b z → FallsTo a b z
+  ends-at-crossing {z} limit crosses =
+      record {
+        positive = rw add-one (positive-from a b z limit (omega (arith, plus-grows a z, minus-grows a b z, crosses .not-positive, crosses .then-positive)) (crosses .then-positive));
+        found = λ h. crosses .not-positive;
+      }
+
+  -- the step below the next place is the one at this place
+  pub slope-below : {slope : ℕ} (z : ℕ) → slope ≡ rise a b z → slope ≡ rise a b (z + 1 - 1)
+  slope-below z is-slope = rw (add-sub-cancel z 1) is-slope
+
   pub positive-at : {high : ℕ} → FallsFrom a b high → minus a b high < plus a high
   unfolding PositiveFrom
   positive-at {high} begins = begins .positive high (omega arith)
-
--- A turn of the search from above, by its values: the room is what g has above 1 at `high`, the slope that of the step below `high`.
-pub record Falling (a b high room slope : ℕ) : Type 0 where
-  pub is-room : minus a b high + room + 1 ≡ plus a high
-  pub is-slope : slope ≡ rise a b (high - 1)
-  pub begins : FallsFrom a b high
 
 module _ {a b high room slope : ℕ} where
   stays-positive : (z : ℕ) → bend ≤ z → Allows room slope (high - z) → Falling a b high room slope → PositiveFrom a b z
@@ -64,8 +71,3 @@ module _ {a b high room slope : ℕ} where
         on-grid = omega (arith, turn .begins .on-grid);
         positive = stays-positive (high - room / slope) (omega arith) (jump (omega arith)) turn;
       }
-
--- where g does not rise below `high`, no room needs to be worked out
-pub fall-flat : {a b high slope : ℕ} → slope ≡ 0 → slope ≡ rise a b (high - 1) → FallsFrom a b high → FallsTo a b (bend - 1)
-fall-flat {a} {b} {high} none is-slope begins =
-    fall-misses {room = plus a high - minus a b high - 1} (flat none) (record { is-room = omega (arith, positive-at a b begins); is-slope = is-slope; begins = begins })

@@ -10,4 +10,5 @@ pub mod Widths
 pub mod Room
 pub mod Falls
 pub mod Climbs
+pub mod Spared
 pub mod Ends

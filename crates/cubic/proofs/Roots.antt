@@ -6,15 +6,10 @@ use native.Mathlib.Numerals.{add-one}
 use native.Mathlib.Omega.{arith}
 use native.Mathlib.Decide.{decLe}
 use Rattle.cubic.specs.Cubic.{Crossing, GasRoot, DenseRoot}
-use Rattle.cubic.specs.Sides.{plus, minus, plusStep, minusStep, bend, PositiveFrom, NotPositiveTo}
+use Rattle.cubic.specs.Sides.{plus, minus, plusStep, minusStep, bend, PositiveFrom, NotPositiveTo, Crosses}
 use Rattle.cubic.proofs.Signed.{to-positive, of-positive}
 use Rattle.cubic.proofs.Shape.{plus-grows, minus-grows}
 use Rattle.cubic.proofs.Lines.{positive-from, not-positive-to}
-
--- a crossing, by the halves of g
-record Crosses (a b z : ℕ) : Type 0 where
-  not-positive : plus a z ≤ minus a b z
-  then-positive : minus a b (suc z) < plus a (suc z)
 
 module _ (a b : ℕ) where
   to-crossing : {z : ℕ} → Crosses a b z → Crossing a b z

@@ -1,6 +1,7 @@
 -- g in two halves over naturals, g(z) = plus(z) - minus(z), and what the engine's private functions ask and promise of them.
 -- Nothing public is stated by this file: `proofs/Signed.antt` ties the halves to the g that document 01 writes.
-use Prim.Native.Nat.{ℕ, _+_, _*_, _-_, _≤_, _<_}
+use mathlib.Core.Path.{_≡_}
+use Prim.Native.Nat.{ℕ, suc, _+_, _*_, _-_, _≤_, _<_}
 use Rattle.cubic.specs.Cubic.{N}
 use Rattle.cubic.specs.Promise.{largestB}
 
@@ -37,16 +38,37 @@ PositiveFrom a b high = (y : ℕ) → high ≤ y → minus a b y < plus a y
 unfoldable pub NotPositiveTo : (a b low : ℕ) → Type 0
 NotPositiveTo a b low = (y : ℕ) → y ≤ low → plus a y ≤ minus a b y
 
+-- a crossing, by the halves of g
+pub record Crosses (a b z : ℕ) : Type 0 where
+  pub not-positive : plus a z ≤ minus a b z
+  pub then-positive : minus a b (suc z) < plus a (suc z)
+
+-- where the gas root lies, if it is at the bend or above
+pub record GasSide (b z : ℕ) : Type 0 where
+  pub from-bend : bend ≤ z
+  pub to-top : z ≤ N + b
+
 -- where a search from above may begin
 pub record FallsFrom (a b high : ℕ) : Type 0 where
   pub past-bend : bend < high
   pub on-grid : high ≤ N + b + 1
   pub positive : PositiveFrom a b high
 
+-- a place of that search, by its values: the room is what g has above 1 at `high`, the slope that of the step below `high`
+pub record Falling (a b high room slope : ℕ) : Type 0 where
+  pub is-room : minus a b high + room + 1 ≡ plus a high
+  pub is-slope : slope ≡ rise a b (high - 1)
+  pub begins : FallsFrom a b high
+
 -- where that search ends: at the crossing, if there is one from the bend on, and below the bend if there is none
 pub record FallsTo (a b z : ℕ) : Type 0 where
   pub positive : PositiveFrom a b (z + 1)
   pub found : bend ≤ z → plus a z ≤ minus a b z
+
+-- a place that such a search found, with nothing positive below it
+pub record Alone (a b z : ℕ) : Type 0 where
+  pub from-bend : bend ≤ z
+  pub not-positive : NotPositiveTo a b z
 
 -- where a search from below stands before the bend
 pub record ClimbsFrom (a b low : ℕ) : Type 0 where

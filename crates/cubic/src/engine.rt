@@ -1,62 +1,79 @@
 // The two searches. Each goes from outside towards the bend by Newton steps with exact differences:
 // a straight line bounds g as far as the bend, so nothing on the way is skipped, and no sign change
 // is trusted that is not the first from outside.
+ghost use mathlib.Core.Path.{_≡_};
 ghost use Rattle.cubic.specs.Promise.{Within};
-ghost use Rattle.cubic.specs.Sides.{FallsFrom, FallsTo, ClimbsTo};
+ghost use Rattle.cubic.specs.Sides.{FallsFrom, Falling, FallsTo, ClimbsTo};
+use crate::guesses::nearer;
 use crate::sides::BEND;
 use crate::sides::GRID;
 use crate::sides::minus;
 use crate::sides::plus;
 use crate::sides::rise;
 
-// A place from which g is positive for good: just above `start` where that can be seen, else above
-// N + b. From the bend on a step that rises rises on, so a rise at `start` to a positive value shows it.
-pub(crate) fn first_high(a: u64, b: u64, start: u64) -> u64
+// A place from which g is positive for good, with what a step down from it asks: by how much g rises to
+// it, and what g has above 1 there.
+pub(crate) struct Place {
+    pub high: u64,
+    pub slope: u64,
+    pub room: u64,
+}
+
+pub(crate) fn place_at(a: u64, b: u64, high: u64) -> Place
+    requires { ⌜ Within a b × FallsFrom a b high ⌝ }
+    ensures { λ r. ⌜ r .high ≡ high ⌝ }
+    ensures { λ r. ⌜ Falling a b (r .high) (r .room) (r .slope) ⌝ }
+{
+    let slope = rise(a, b, high - 1);
+    let room = plus(a, high) - minus(a, b, high) - 1;
+    Place { high, slope, room }
+}
+
+// Just above the guess where g can be seen to be positive from there on, else above N + b. From the bend
+// on a step that rises rises on, so a rise to a positive value shows it.
+pub(crate) fn first_place(a: u64, b: u64) -> Place
     requires { ⌜ Within a b ⌝ }
-    ensures { λ r. ⌜ FallsFrom a b r ⌝ }
+    ensures { λ r. ⌜ Falling a b (r .high) (r .room) (r .slope) ⌝ }
 {
     let top = GRID + b + 1;
-    if start < BEND {
-        return top;
-    }
-    if top <= start {
-        return top;
-    }
-    if rise(a, b, start) == 0 {
-        return top;
-    }
-    let high = start + 1;
+    let guess = nearer(a, b);
+    let high = guess + 1;
+    let slope = rise(a, b, guess);
     let above = plus(a, high);
     let below = minus(a, b, high);
-    if above <= below {
-        return top;
+    if slope == 0 {
+        return place_at(a, b, top);
     }
-    high
+    if above <= below {
+        return place_at(a, b, top);
+    }
+    let room = above - below - 1;
+    Place { high, slope, room }
 }
 
 // The crossing at the bend or above, if there is one, and a place below the bend if there is none.
-// g is positive at `high` and above. Down to the bend no step is more than the one below `high`, so g
-// stays positive for as many places as that step goes into what g has above 1 there.
-pub(crate) fn fall(a: u64, b: u64, from: u64) -> u64
-    requires { ⌜ Within a b × FallsFrom a b from ⌝ }
+// Down to the bend no step is more than the one below `high`, so g stays positive for as many places as
+// that step goes into the room.
+pub(crate) fn fall(a: u64, b: u64) -> u64
+    requires { ⌜ Within a b ⌝ }
     ensures { λ r. ⌜ FallsTo a b r ⌝ }
 {
-    let mut high = from;
+    let mut place = first_place(a, b);
     loop {
-        let below = high - 1;
-        let slope = rise(a, b, below);
+        let high = place.high;
+        let slope = place.slope;
+        let room = place.room;
         if slope == 0 {
             return BEND - 1;
         }
-        let room = plus(a, high) - minus(a, b, high) - 1;
         if room < slope {
-            return below;
+            return high - 1;
         }
         let jump = room / slope;
         if high - BEND <= jump {
             return BEND - 1;
         }
-        high -= jump;
+        place = place_at(a, b, high - jump);
     }
 }
 

@@ -1,8 +1,8 @@
--- The parts of a density: with the pressure as h thousands and l more, the factor times each fits in 64 bits, and together they are the whole
--- product above the bar. Assumes nothing.
-use mathlib.Core.Path.{_≡_, ap}
-use Prim.Native.Nat.{ℕ, _+_, _*_, _/_, _%_, _^_, _≤_, _<_}
-use native.Mathlib.Nat.{mul-le-mul, mul-pos, div-add-mod}
+-- The parts of a density: over half of the gas constant, the product above the bar fits in 64 bits, and what is left below the bar is not 0.
+-- Assumes nothing.
+use mathlib.Core.Path.{_≡_, sym, ap, _∙_}
+use Prim.Native.Nat.{ℕ, _*_, _/_, _≤_, _<_}
+use native.Mathlib.Nat.{mul-le-mul, mul-pos, mul-comm, div-div-eq-div-mul}
 use native.Mathlib.Omega.{arith}
 use Rattle.fluid.specs.declared.choice.Fluid.{Fluid}
 use Rattle.fluid.specs.declared.choice.Fluid.the-variants.{Hydrogen, Oxygen}
@@ -18,24 +18,21 @@ pub factor-fits : (fluid : Fluid) → densityFactor fluid ≤ largestFactor
 factor-fits Hydrogen = omega arith
 factor-fits Oxygen = omega arith
 
--- a factor times thousands of pascals, or times what they leave
-pub part-fits : {factor x : ℕ} → factor ≤ largestFactor → x ≤ highest / 1000 → factor * x < 2 ^ 64
-part-fits {factor} {x} fits few = omega (arith, mul-le-mul {m₂ = highest / 1000} fits few)
+pub parts-fit : (factor pascals : ℕ) → factor ≤ largestFactor → pascals ≤ highest → PartsFit pascals factor 4157
+parts-fit factor pascals fits few =
+    let quotient : pascals * factor / 4157 ≤ highest * largestFactor / 4157 = quotient-grows {y = highest * largestFactor} {d = 4157} (omega arith) (omega arith) (mul-le-mul few fits) in
+    record { some-divisor = omega arith; quotient-fits = omega (arith, quotient); carried-fits = omega arith }
 
-pub record Parts (factor millikelvin pascals root : ℕ) : Type 0 where
-  pub divisor : root * millikelvin ≤ largestRoot * hottest
-  pub whole : factor * (pascals / 1000) * 1000 + factor * (pascals % 1000) ≡ factor * pascals
-  pub parts-fit : PartsFit (factor * (pascals / 1000)) 1000 (factor * (pascals % 1000)) (4157 * root * millikelvin)
+-- what is left below the bar
+pub record Left (root millikelvin : ℕ) : Type 0 where
+  pub some : 0 < root * millikelvin
+  pub fits : root * millikelvin ≤ largestRoot * hottest
 
-pub parts : (factor millikelvin pascals root : ℕ) → factor ≤ largestFactor → Weighable millikelvin pascals root → Parts factor millikelvin pascals root
-parts factor millikelvin pascals root fits w =
-    let rest : factor * (pascals % 1000) ≤ largestFactor * 1000 = mul-le-mul {m₂ = 1000} fits (omega arith) in
-    let divisor : root * millikelvin ≤ largestRoot * hottest = mul-le-mul (w .root-fits) (w .temperature-fits) in
-    let some : 0 < root * millikelvin = mul-pos (w .some-root) (w .some-temperature) in
-    let whole : factor * (pascals / 1000) * 1000 + factor * (pascals % 1000) ≡ factor * pascals = omega (arith, ap (λ (t : ℕ). factor * t) (div-add-mod pascals 1000)) in
-    let quotient : factor * pascals / (4157 * root * millikelvin) ≤ largestFactor * highest / 4157 = quotient-grows {y = largestFactor * highest} {d = 4157} (omega arith) (omega arith) (mul-le-mul fits (w .pressure-fits)) in
-    record {
-      divisor = divisor;
-      whole = whole;
-      parts-fit = record { some-divisor = omega arith; quotient-fits = rw whole (omega (arith, quotient)); carried-fits = omega arith };
-    }
+pub left : {millikelvin pascals root : ℕ} → Weighable millikelvin pascals root → Left root millikelvin
+left w = record { some = mul-pos (w .some-root) (w .some-temperature); fits = mul-le-mul (w .root-fits) (w .temperature-fits) }
+
+-- one rounding down after the other is one
+pub one-rounding : (factor millikelvin pascals root : ℕ) → pascals * factor / 4157 / (root * millikelvin) ≡ factor * pascals / (4157 * root * millikelvin)
+one-rounding factor millikelvin pascals root =
+    let below : 4157 * (root * millikelvin) ≡ 4157 * root * millikelvin = omega arith in
+    rw (mul-comm factor pascals, ← below) (div-div-eq-div-mul (pascals * factor) 4157 (root * millikelvin))

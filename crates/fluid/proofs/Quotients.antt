@@ -12,8 +12,8 @@ pub quotient-grows : {x y c d : ℕ} → 0 < d → d ≤ c → x ≤ y → x / c
 quotient-grows {x} {y} {c} {d} some less more =
     quotient-from some (omega (arith, div-mul-le-self x c, mul-le-mul-left (x / c) less))
 
--- What x leaves over m is carried on: x c + y is (x / m) c times m, and (x % m) c + y more.
-pub in-parts : (x c y m : ℕ) → 0 < m → x / m * c + (x % m * c + y) / m ≡ (x * c + y) / m
-in-parts x c y m some =
-    let whole : x / m * c * m + (x % m * c + y) ≡ x * c + y = omega (arith, ap (λ (t : ℕ). t * c) (div-add-mod x m)) in
-    sym (rw whole at (mul-add-div-right some (x / m * c) (x % m * c + y)))
+-- What x leaves over m is carried on: x c is (x / m) c times m, and (x % m) c more.
+pub in-parts : (x c m : ℕ) → 0 < m → x / m * c + x % m * c / m ≡ x * c / m
+in-parts x c m some =
+    let whole : x / m * c * m + x % m * c ≡ x * c = omega (arith, ap (λ (t : ℕ). t * c) (div-add-mod x m)) in
+    sym (rw whole at (mul-add-div-right some (x / m * c) (x % m * c)))

@@ -42,3 +42,7 @@ some-guess {n} {guess} above = pos-of-ne-zero (λ none. omega (arith, above, ap 
 
 pub step-falls : (n guess : ℕ) → n < guess * guess → (guess + n / guess) / 2 < guess
 step-falls n guess above = omega (arith, div-lt-iff-lt-mul {x = n} {y = guess} (some-guess above) .1 above)
+
+-- a step from a guess that is not below the root leads at most one up
+pub step-stays-near : (n guess : ℕ) → 0 < guess → n < (guess + 1) * (guess + 1) → (guess + n / guess) / 2 ≤ guess + 1
+step-stays-near n guess some above = omega (arith, div-lt-iff-lt-mul {x = n} {y = guess + 3} some .1 (omega arith))

@@ -1,6 +1,6 @@
 // The density of a root (document 01, "Densities").
 ghost use mathlib.Core.Path.{_≡_};
-ghost use Prim.Native.Nat.{_+_, _*_, _/_};
+ghost use Prim.Native.Nat.{_*_, _/_};
 ghost use Rattle.fluid.specs.Promise.{Weighs};
 ghost use Rattle.fluid.specs.Inside.{PartsFit};
 use crate::choice::Fluid;
@@ -14,24 +14,23 @@ const HALF_GAS_CONSTANT: u64 = 4_157;
 // N + b for the largest b that the cubic takes.
 const LARGEST_ROOT: u64 = 1_100_000;
 
-const THOUSAND: u64 = 1_000;
-
 pub enum Density {
     GramsPerCubicMetre(u64),
     OutOfBounds,
 }
 
-// The exact quotient of x times c and y more by m, rounded down once, where the product itself would
-// pass 64 bits: what x leaves over m is carried on.
-pub(crate) fn quotient_in_parts(x: u64, c: u64, y: u64, m: u64) -> u64
-    requires { ⌜ PartsFit x c y m ⌝ }
-    ensures { λ r. ⌜ r ≡ (x * c + y) / m ⌝ }
+// The exact quotient of x times c by m, rounded down once, where the product itself would pass 64 bits:
+// what x leaves over m is carried on.
+pub(crate) fn quotient_in_parts(x: u64, c: u64, m: u64) -> u64
+    requires { ⌜ PartsFit x c m ⌝ }
+    ensures { λ r. ⌜ r ≡ x * c / m ⌝ }
 {
-    x / m * c + (x % m * c + y) / m
+    x / m * c + x % m * c / m
 }
 
 // The density of a root at a state, or that 64 bits do not hold its parts, or that it would divide by 0.
-// The product above the bar is split by the pressure's thousands.
+// To divide by one number and then by another rounds down as to divide by their product does. So half the
+// gas constant goes first: what is left fits, and the division by a number that is known costs little.
 pub fn density_of(fluid: Fluid, millikelvin: u64, pascals: u64, root: u64) -> Density
     ensures { λ r. ⌜ Weighs fluid millikelvin pascals root r ⌝ }
 {
@@ -51,11 +50,7 @@ pub fn density_of(fluid: Fluid, millikelvin: u64, pascals: u64, root: u64) -> De
         return Density::OutOfBounds;
     }
     let figures = figures_at(fluid, millikelvin);
-    let factor = figures.density_factor;
-    Density::GramsPerCubicMetre(quotient_in_parts(
-        factor * (pascals / THOUSAND),
-        THOUSAND,
-        factor * (pascals % THOUSAND),
-        HALF_GAS_CONSTANT * root * millikelvin,
-    ))
+    let over_gas_constant = quotient_in_parts(pascals, figures.density_factor, HALF_GAS_CONSTANT);
+    let grams = over_gas_constant / (root * millikelvin);
+    Density::GramsPerCubicMetre(grams)
 }

@@ -1,21 +1,42 @@
 // The whole square root of document 01's s.
-ghost use Prim.Native.Nat.{_≤_};
+ghost use mathlib.Core.Path.{_≡_};
+ghost use Prim.Native.Nat.{_+_, _/_, _≤_};
 ghost use Rattle.fluid.specs.Reduced.{SquareRoot};
-ghost use Rattle.fluid.specs.Inside.{largestSquare};
+ghost use Rattle.fluid.specs.Inside.{largestSquare, FirstGuess, Guess};
 
-// A root amid those that occur, from 6,018 to 48,149. A closer guess would save steps and change nothing.
-const GUESS: u64 = 20_000;
+// The n at which the first guess goes over from one straight line to another.
+const MIDDLE: u64 = 364_000_000;
 
-// The largest whole number whose square is at most n. Each guess is Newton's step from the one before:
-// the mean of a guess and n over it is never below the root, so the first guess whose square is not
-// above n is the root.
+// Two lines along the root's curve, so close for every n that occurs, 56,910,000 to 2,318,410,000, that two
+// steps nearly always lead to the root. Other lines would take other steps and change nothing.
+fn first_guess(n: u64) -> u64
+    requires { ⌜ n ≤ largestSquare ⌝ }
+    ensures { λ r. ⌜ FirstGuess r ⌝ }
+{
+    if n < MIDDLE {
+        return 4_835 + n / 22_600;
+    }
+    12_210 + n / 57_110
+}
+
+// Newton's step: the mean of a guess and n over it, which is never below the root.
+fn step(n: u64, guess: u64) -> u64
+    requires { ⌜ (n ≤ largestSquare) × Guess guess ⌝ }
+    ensures { λ r. ⌜ r ≡ (guess + n / guess) / 2 ⌝ }
+{
+    (guess + n / guess) / 2
+}
+
+// The largest whole number whose square is at most n: the first guess, after a step, whose square is not
+// above n. Two steps are taken before the first test, so that the test nearly always comes out the same.
 pub(crate) fn square_root(n: u64) -> u64
     requires { ⌜ n ≤ largestSquare ⌝ }
     ensures { λ r. ⌜ SquareRoot n r ⌝ }
 {
-    let mut root = (GUESS + n / GUESS) / 2;
+    let closer = step(n, first_guess(n));
+    let mut root = step(n, closer);
     while n < root * root {
-        root = (root + n / root) / 2;
+        root = step(n, root);
     }
     root
 }

@@ -2,12 +2,16 @@
 use mathlib.Core.Path.{_≡_}
 use Prim.Native.Nat.{ℕ}
 use Rattle.cubic.specs.Cubic.{Kind, ONE, SPLIT, IsKind}
+use Rattle.cubic.specs.Promise.{BothRoots}
 use Rattle.fluid.specs.declared.choice.Fluid.{Fluid}
+use Rattle.fluid.specs.declared.coefficients.Reduced.{Reduced}
 use Rattle.fluid.specs.Figures.{numberOf}
 use Rattle.fluid.specs.Densities.{density}
 use Rattle.fluid.specs.Promise.{Reached, Weighable}
 use Rattle.state.specs.declared.checks.Checked.{Checked}
 use Rattle.state.specs.declared.checks.Checked.the-variants.{Accepted, Refused}
+use Rattle.state.specs.declared.searches.Searched.{Searched}
+use Rattle.state.specs.declared.searches.Searched.the-variants as Searched
 use Rattle.state.specs.declared.replies.Reply.{Reply}
 use Rattle.state.specs.declared.replies.Reply.the-variants.{One, Split, NoSuchFluid, TemperatureOutOfRange, PressureOutOfRange, NoSuchSlot}
 use Rattle.state.specs.Replies.{Replies}
@@ -24,6 +28,17 @@ Refuses number millikelvin pascals NoSuchSlot = ⊥
 abbrev pub Checks : (number millikelvin pascals : ℕ) → Checked → Type 0
 Checks number millikelvin pascals (Accepted fluid reduced) = (number ≡ numberOf fluid) × Reached fluid millikelvin pascals reduced
 Checks number millikelvin pascals (Refused reply) = Refuses number millikelvin pascals reply
+
+-- the fluid of an accepted state, and its two roots
+pub record Found (number millikelvin pascals : ℕ) (fluid : Fluid) (gas dense : ℕ) : Type 0 where
+  pub is-number : number ≡ numberOf fluid
+  pub reduced : Reduced
+  pub reached : Reached fluid millikelvin pascals reduced
+  pub roots : BothRoots (reduced .a) (reduced .b) gas dense
+
+abbrev pub Searches : (number millikelvin pascals : ℕ) → Searched → Type 0
+Searches number millikelvin pascals (Searched.Found fluid roots) = Found number millikelvin pascals fluid (roots .gas) (roots .dense)
+Searches number millikelvin pascals (Searched.Refused reply) = Refuses number millikelvin pascals reply
 
 pub record Weighty (millikelvin pascals gas dense : ℕ) : Type 0 where
   pub gas-fits : Weighable millikelvin pascals gas

@@ -3,13 +3,13 @@
 mod answers;
 mod checks;
 mod replies;
+mod searches;
 
 ghost use Rattle.state.specs.Book.{Called};
 ghost use Rattle.state.specs.Replies.{Replies};
 use crate::answers::answer;
-use crate::answers::both_roots;
-use crate::checks::Checked;
-use crate::checks::check;
+use crate::searches::Searched;
+use crate::searches::search;
 pub use replies::Figures;
 pub use replies::Reply;
 
@@ -22,13 +22,21 @@ const LAST_SLOT: u64 = 63;
 pub fn ask(fluid: u64, millikelvin: u64, pascals: u64) -> Reply
     ensures { λ r. ⌜ Replies fluid millikelvin pascals r ⌝ }
 {
-    match check(fluid, millikelvin, pascals) {
-        Checked::Refused(refusal) => refusal,
-        Checked::Accepted { fluid, reduced } => {
-            let roots = both_roots(reduced.a, reduced.b, 0);
-            answer(fluid, millikelvin, pascals, roots)
-        }
+    match search(fluid, millikelvin, pascals, 0) {
+        Searched::Refused(refusal) => refusal,
+        Searched::Found { fluid, roots } => answer(fluid, millikelvin, pascals, roots),
     }
+}
+
+// What the slot holds, and 0 where there is no such slot. It promises nothing, as no reply depends on it.
+fn start_in(book: &[u32], slot: u64) -> u64 {
+    if book.len() != SLOTS {
+        return 0;
+    }
+    if LAST_SLOT < slot {
+        return 0;
+    }
+    book[slot as usize] as u64
 }
 
 // With a book: the search may begin at what the slot holds, and leaves the gas root there. The number in
@@ -43,9 +51,10 @@ pub fn ask_with_book(
 ) -> Reply
     ensures { λ r. ⌜ Called fluid millikelvin pascals slot (now (book .entry)) r (now (book .exit)) ⌝ }
 {
-    match check(fluid, millikelvin, pascals) {
-        Checked::Refused(earlier) => earlier,
-        Checked::Accepted { fluid, reduced } => {
+    let start = start_in(book, slot);
+    match search(fluid, millikelvin, pascals, start) {
+        Searched::Refused(earlier) => earlier,
+        Searched::Found { fluid, roots } => {
             if book.len() != SLOTS {
                 return Reply::NoSuchSlot;
             }
@@ -53,8 +62,6 @@ pub fn ask_with_book(
                 return Reply::NoSuchSlot;
             }
             let at = slot as usize;
-            let start = book[at] as u64;
-            let roots = both_roots(reduced.a, reduced.b, start);
             let gas = roots.gas;
             book[at] = gas as u32;
             answer(fluid, millikelvin, pascals, roots)

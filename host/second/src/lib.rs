@@ -3,6 +3,8 @@
 
 pub mod cubic;
 pub mod heat;
+pub mod heat_list;
 pub mod random;
 pub mod sheet;
+pub mod sheet_list;
 pub mod state;

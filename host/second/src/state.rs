@@ -10,6 +10,13 @@ pub const OXYGEN: u64 = 1;
 pub const ONE: u64 = 1;
 pub const SPLIT: u64 = 2;
 
+/// The ends of the ranges, which are in range: the lowest millikelvin of each fluid, the highest of both,
+/// and the pascals.
+pub const COLDEST: [u64; 2] = [14_000, 56_000];
+pub const HOTTEST: u64 = 1_000_000;
+pub const LOWEST_PRESSURE: u64 = 10_000;
+pub const HIGHEST_PRESSURE: u64 = 50_000_000;
+
 /// How many numbers a book has.
 pub const BOOK: usize = 64;
 
@@ -22,6 +29,19 @@ pub struct Reply {
     pub dense_root: u64,
     pub gas_density: u64,
     pub dense_density: u64,
+}
+
+impl Reply {
+    /// All but the number, in the paper's order.
+    pub fn figures(&self) -> [u64; 5] {
+        [
+            self.kind,
+            self.gas_root,
+            self.dense_root,
+            self.gas_density,
+            self.dense_density,
+        ]
+    }
 }
 
 /// The critical temperature and pressure, Tc and Pc.
@@ -70,13 +90,15 @@ pub fn reduced(critical: &Critical, millikelvin: u64, pascals: u64) -> Reduced {
     }
 }
 
-/// Found by counting up, which is its definition.
+/// Found by counting up, which is its definition. The limit is below 2^32 for every state in range, so
+/// no square needs more than the 64 bits of a quick count.
 fn largest_with_square_up_to(limit: u128) -> u128 {
+    let limit = u64::from(u32::try_from(limit).expect("a limit of 32 bits"));
     let mut s = 0;
     while (s + 1) * (s + 1) <= limit {
         s += 1;
     }
-    s
+    s.into()
 }
 
 /// Grams per cubic metre at this root.
@@ -92,15 +114,13 @@ pub fn density(fluid: u64, millikelvin: u64, pascals: u64, root: u64) -> u64 {
 
 /// The reply to a call without a book.
 pub fn reply(fluid: u64, millikelvin: u64, pascals: u64) -> Reply {
-    let coldest = match fluid {
-        HYDROGEN => 14_000,
-        OXYGEN => 56_000,
-        _ => return refused(1),
-    };
-    if !(coldest..=1_000_000).contains(&millikelvin) {
+    if ![HYDROGEN, OXYGEN].contains(&fluid) {
+        return refused(1);
+    }
+    if !(COLDEST[fluid as usize]..=HOTTEST).contains(&millikelvin) {
         return refused(2);
     }
-    if !(10_000..=50_000_000).contains(&pascals) {
+    if !(LOWEST_PRESSURE..=HIGHEST_PRESSURE).contains(&pascals) {
         return refused(3);
     }
     let Reduced { a, b, .. } = reduced(&critical(fluid, millikelvin), millikelvin, pascals);
@@ -126,7 +146,11 @@ pub fn reply_with_book(
     slot: u64,
     book: &mut [u32],
 ) -> Reply {
-    let without = reply(fluid, millikelvin, pascals);
+    put_into_book(reply(fluid, millikelvin, pascals), slot, book)
+}
+
+/// What a book makes of the reply to the same call without one.
+pub fn put_into_book(without: Reply, slot: u64, book: &mut [u32]) -> Reply {
     if without.number != 0 {
         return without;
     }

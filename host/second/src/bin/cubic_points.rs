@@ -6,14 +6,10 @@
 //! `list` chooses points "a b start"; `scan` answers each by looking at every place of the grid, and
 //! never looks at the start.
 
-use second::cubic::{crossings, g, N};
+use second::cubic::{crossings, g, LARGEST_A, LARGEST_B, N};
 use second::random::Random;
 use std::collections::HashMap;
 use std::io::{self, BufWriter, Read, Write};
-
-/// The bounds that `cubic::solve` documents.
-const LARGEST_A: u64 = 20_000_000;
-const LARGEST_B: u64 = 1_000_000;
 
 /// A third of the grid, where the engine's two searches meet.
 const BEND: u64 = 33_333;
@@ -32,6 +28,7 @@ fn main() -> io::Result<()> {
     }
 }
 
+/// The bounds that `cubic::solve` documents, and the scan's.
 fn within(a: u64, b: u64) -> bool {
     a <= LARGEST_A && b <= LARGEST_B
 }

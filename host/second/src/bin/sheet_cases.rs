@@ -8,6 +8,7 @@
 
 use second::random::Random;
 use second::sheet::{print, EXAMPLE, LONGEST};
+use second::state::{COLDEST, HIGHEST_PRESSURE, HOTTEST, LOWEST_PRESSURE};
 use std::path::Path;
 use std::{fs, io};
 
@@ -173,7 +174,7 @@ fn largest() -> Vec<u8> {
 fn full() -> Vec<u8> {
     let mut random = Random(0x5EED);
     let mut sheet = String::new();
-    for coldest in [14_000, 56_000] {
+    for coldest in COLDEST {
         let mut states = ends(coldest);
         while states.len() < 1000 {
             states.push(state(coldest, &mut random));
@@ -188,11 +189,11 @@ fn full() -> Vec<u8> {
 
 /// Both sides of each end of the ranges.
 fn ends(coldest: u64) -> Vec<[u64; 2]> {
+    let [lowest, highest] = [LOWEST_PRESSURE, HIGHEST_PRESSURE];
+    let pressures = [lowest - 1, lowest, highest, highest + 1];
     let mut states = Vec::new();
-    for millikelvin in [coldest - 1, coldest, 1_000_000, 1_000_001] {
-        for pascals in [9_999, 10_000, 50_000_000, 50_000_001] {
-            states.push([millikelvin, pascals]);
-        }
+    for millikelvin in [coldest - 1, coldest, HOTTEST, HOTTEST + 1] {
+        states.extend(pressures.map(|pascals| [millikelvin, pascals]));
     }
     states
 }
@@ -200,10 +201,10 @@ fn ends(coldest: u64) -> Vec<[u64; 2]> {
 /// Mostly in range, and half of those cold and half of them at a low pressure, since SPLIT
 /// states are both. Three times the coldest temperature is about the critical one.
 fn state(coldest: u64, random: &mut Random) -> [u64; 2] {
-    let warmest = [3 * coldest, 1_000_000][random.number() as usize % 2];
-    let highest = [1_000_000, 50_000_000][random.number() as usize % 2];
-    let millikelvin = coldest + random.number() % (warmest - coldest + 1);
-    let pascals = 10_000 + random.number() % (highest - 10_000 + 1);
+    let hottest = [3 * coldest, HOTTEST][random.number() as usize % 2];
+    let highest = [1_000_000, HIGHEST_PRESSURE][random.number() as usize % 2];
+    let millikelvin = coldest + random.number() % (hottest - coldest + 1);
+    let pascals = LOWEST_PRESSURE + random.number() % (highest - LOWEST_PRESSURE + 1);
     let ten_digits = 1_000_000_000 + random.number() % 9_000_000_000;
     match random.number() % 20 {
         0 => [ten_digits, pascals],

@@ -12,206 +12,31 @@
 //! the answers to the questions for each state line, for the one after the last, and for the one of the
 //! largest number there is.
 
-use second::random::Random;
-use second::sheet::{faulty_line, read, state_at, state_lines, EXAMPLE, TEN_NINES};
-use std::collections::HashSet;
+use second::sheet::{faulty_line, read, state_at, state_lines};
+use second::sheet_list::list;
 use std::io::{self, BufWriter, Read, Write};
 
 /// The last question for a state line. Written out, so that no smaller number can stand for it.
 const LARGEST_QUESTION: usize = 18_446_744_073_709_551_615;
 
-/// The list is read into a buffer of 65,536 bytes, and much room is left there.
-const LARGEST_LIST: usize = 40_000;
-
 /// What ends a sheet in the list. No sheet of the list holds it.
 const SHEET_END: u8 = b'~';
 
-/// The least and the greatest bytes, blanks, digits, and the neighbours of the digits.
-const BYTES: [u8; 11] = [0, 9, 10, 13, 32, 47, 48, 49, 57, 58, 255];
-
-/// What a sheet is made of, three digits of the ten.
-const ALPHABET: &[u8] = b"019 \n";
-
-/// Good sheets to be damaged everywhere, in every way.
-const SMALL: [&[u8]; 3] = [b"0\n0\n", b"1\n0 0\n0\n", b"0\n1\n1 9\n"];
-
-/// Good sheets to be damaged everywhere, with new bytes at the end alone.
-const LARGER: [&[u8]; 3] = [
-    b"1\n10 9\n1\n0 99\n",
-    b"1\n1000000000 0\n0\n",
-    b"0\n1\n9 9999999999\n",
-];
-
-/// Numbers that a sheet can hold: the ends of the ranges with what lies past them, the ends of what 8,
-/// 16, 31, 32 and 33 bits can hold, every digit, and what is in range for whoever keeps 32 bits.
-const NUMBERS: [u64; 28] = [
-    13_999,
-    14_000,
-    55_999,
-    56_000,
-    1_000_000,
-    1_000_001,
-    9_999,
-    10_000,
-    50_000_000,
-    50_000_001,
-    255,
-    256,
-    65_535,
-    65_536,
-    2_147_483_647,
-    2_147_483_648,
-    4_294_967_295,
-    4_294_967_296,
-    4_294_967_297,
-    8_589_934_591,
-    8_589_934_592,
-    1_234_567_890,
-    9_876_543_210,
-    1_023_456_789,
-    300_000,
-    4_295_267_296,
-    500_000,
-    4_295_467_296,
-];
-
-/// Texts that are no numbers. The last three are 2 to the 64th, one more, and 300,000 more, which are
-/// 0, 1 and 300,000 to whoever does not look at the carry.
-const NO_NUMBERS: [&[u8]; 32] = [
-    b"",
-    b" ",
-    b"00",
-    b"01",
-    b"09",
-    b"000",
-    b"010",
-    b"0000000000",
-    b"0000000001",
-    b"0123456789",
-    b"00000000000",
-    b"00000000001",
-    b"10000000000",
-    b"99999999999",
-    b"+0",
-    b"+1",
-    b"-0",
-    b"-1",
-    b"x",
-    b"0x1",
-    b"1e0",
-    b"1.0",
-    b"1,0",
-    b"1_0",
-    b"0\t",
-    b"\t0",
-    b"0\r",
-    b"\xC2\xA00",
-    b"\xEF\xBC\x90",
-    b"18446744073709551616",
-    b"18446744073709551617",
-    b"18446744073709851616",
-];
-
-/// Counts on both sides of 1000, and such as are 0, 1 or 1000 to whoever keeps 8, 16 or 32 bits or
-/// looks at the first digits alone.
-const COUNTS: [u64; 38] = [
-    1,
-    2,
-    3,
-    9,
-    10,
-    11,
-    99,
-    100,
-    101,
-    255,
-    256,
-    257,
-    512,
-    998,
-    999,
-    1000,
-    1001,
-    1002,
-    1009,
-    1010,
-    1024,
-    1100,
-    2000,
-    9999,
-    10_000,
-    65_535,
-    65_536,
-    65_537,
-    66_536,
-    100_000,
-    10_000_000,
-    1_000_000_000,
-    2_147_483_648,
-    4_294_967_295,
-    4_294_967_296,
-    4_294_967_297,
-    4_294_968_296,
-    TEN_NINES,
-];
-
-/// Sheets with a fault that more than one byte makes.
-const OTHERS: &[&[u8]] = &[
-    // lines that end as elsewhere
-    b"0\r\n0\r\n",
-    b"0\r0\r",
-    b"0\n\r0\n\r",
-    b"1\r\n0 1\r\n0\r\n",
-    b"0\n0\r\n",
-    // an empty line before, between and after
-    b"\n0\n0\n",
-    b"1\n\n9 9\n0\n",
-    b"1\n9 9\n\n0\n",
-    b"0\n\n1\n9 9\n",
-    b"0\n1\n9 9\n\n",
-    // a mark of the order of the bytes, which some editors write first
-    b"\xEF\xBB\xBF0\n0\n",
-    // all in one line, or a number in each
-    b"0 0\n",
-    b"0 1 9 9\n",
-    b"1 9 9\n0\n",
-    b"1\n9\n9\n0\n",
-    b"0\n1\n9\n9\n",
-    // two states in one line
-    b"2\n0 1 9 0\n0\n",
-    b"0\n2\n0 1 9 0\n",
-    b"0\n1\n0 1 9\n",
-    // the count behind its state lines, and one section or three
-    b"9 9\n1\n0\n",
-    b"0\n9 9\n1\n",
-    b"1\n9 9\n",
-    b"2\n9 9\n0 1\n",
-    b"0\n0\n0\n",
-    b"0\n0\n1\n9 9\n",
-    b"1\n0 1\n0\n9 9\n",
-    // a count too small, and one too large
-    b"1\n0 1\n9 9\n0\n",
-    b"3\n0 1\n9 9\n0\n",
-    b"0\n1\n0 1\n9 9\n",
-    b"0\n3\n0 1\n9 9\n",
-    // faults in two lines, of which the first counts
-    b"00\n00\n",
-    b"1\n00 0\n00\n",
-    b"2\n0 0\n0  0\n1001\n",
-    b"1001\n0 0",
-    b"0\n1001",
-    b"0\n1\n0 0 \n\n",
-];
-
 fn main() -> io::Result<()> {
     match std::env::args().nth(1).as_deref() {
-        Some("list") => io::stdout().write_all(&list()),
+        Some("list") => io::stdout().write_all(&written_out()),
         Some("answer") => answer(),
         _ => {
             eprintln!("usage: sheet_points list | sheet_points answer");
             std::process::exit(2);
         }
     }
+}
+
+/// The list as it is read.
+fn written_out() -> Vec<u8> {
+    let ended = |sheet: &Vec<u8>| [&sheet[..], &[SHEET_END]].concat();
+    list().iter().flat_map(ended).collect()
 }
 
 fn answer() -> io::Result<()> {
@@ -258,231 +83,12 @@ fn answers(sheet: &[u8]) -> Vec<u8> {
     text
 }
 
-/// The sheets, each once.
-struct List {
-    text: Vec<u8>,
-    known: HashSet<Vec<u8>>,
-}
-
-impl List {
-    fn sheet(&mut self, sheet: &[u8]) {
-        if self.known.insert(sheet.to_vec()) {
-            self.text.extend(sheet);
-            self.text.push(SHEET_END);
-        }
-    }
-
-    /// The sheet with other bytes instead of some.
-    fn spliced(&mut self, sheet: &[u8], place: usize, taken: usize, put: &[u8]) {
-        self.sheet(&[&sheet[..place], put, &sheet[place + taken..]].concat());
-    }
-}
-
-fn list() -> Vec<u8> {
-    let mut list = List {
-        text: Vec::new(),
-        known: HashSet::new(),
-    };
-    let mut random = Random(0x5EED);
-    worked_points(&mut list);
-    distributions(&mut list, &mut random);
-    numbers(&mut list);
-    no_numbers(&mut list);
-    counts(&mut list);
-    many_lines(&mut list);
-    damages(&mut list);
-    for sheet in OTHERS {
-        list.sheet(sheet);
-    }
-    every_short_text(&mut list);
-    lines_in_any_order(&mut list, &mut random);
-    any_text(&mut list, &mut random);
-    list.text
-}
-
-/// Document 01's three.
-fn worked_points(list: &mut List) {
-    list.sheet(EXAMPLE);
-    list.sheet(b"0\n0\n");
-    list.sheet(b"");
-}
-
-/// Good sheets of up to six state lines, for every pair of counts one with numbers of all magnitudes
-/// and one with states in range.
-fn distributions(list: &mut List, random: &mut Random) {
-    for total in 0..=6 {
-        for hydrogen in 0..=total {
-            let counts = [hydrogen, total - hydrogen];
-            list.sheet(&written(counts, |_| {
-                [TEN_NINES; 2].map(|most| random.magnitude(most))
-            }));
-            list.sheet(&written(counts, |coldest| {
-                let millikelvin = coldest + random.magnitude(1_000_000 - coldest);
-                [millikelvin, 10_000 + random.magnitude(49_990_000)]
-            }));
-        }
-    }
-}
-
-/// The good sheet of these counts. A state is chosen by the lowest temperature of its section.
-fn written(counts: [u64; 2], mut state: impl FnMut(u64) -> [u64; 2]) -> Vec<u8> {
-    let mut text = String::new();
-    for (coldest, count) in [14_000, 56_000].into_iter().zip(counts) {
-        text += &format!("{count}\n");
-        for _ in 0..count {
-            let [millikelvin, pascals] = state(coldest);
-            text += &format!("{millikelvin} {pascals}\n");
-        }
-    }
-    text.into()
-}
-
-/// Numbers at every place of a state, the least and the greatest of each length among them.
-fn numbers(list: &mut List) {
-    for number in NUMBERS {
-        in_each_state(list, number.to_string().as_bytes());
-    }
-    for length in 1..=10 {
-        for digit in ["1", "9"] {
-            let zeros = format!("{digit}{}", "0".repeat(length - 1));
-            in_each_state(list, zeros.as_bytes());
-        }
-        in_each_state(list, "9".repeat(length).as_bytes());
-    }
-}
-
-/// Texts that are no numbers, as counts and at every place of a state.
-fn no_numbers(list: &mut List) {
-    for text in NO_NUMBERS {
-        list.sheet(&[text, b"\n0\n"].concat());
-        list.sheet(&[b"0\n", text, b"\n"].concat());
-        in_each_state(list, text);
-    }
-}
-
-/// The text as the temperature and as the pressure of either fluid.
-fn in_each_state(list: &mut List, text: &[u8]) {
-    list.sheet(&[b"1\n", text, b" 0\n0\n"].concat());
-    list.sheet(&[b"1\n1 ", text, b"\n0\n"].concat());
-    list.sheet(&[b"0\n1\n", text, b" 9\n"].concat());
-    list.sheet(&[b"0\n1\n0 ", text, b"\n"].concat());
-}
-
-/// Counts of either section, before fewer lines than they say, save the first few.
-fn counts(list: &mut List) {
-    for count in COUNTS {
-        list.sheet(format!("{count}\n").as_bytes());
-        list.sheet(format!("{count}\n0\n").as_bytes());
-        list.sheet(format!("{count}\n1 9\n0\n").as_bytes());
-        list.sheet(format!("0\n{count}\n").as_bytes());
-        list.sheet(format!("0\n{count}\n9 1\n").as_bytes());
-    }
-    for count in [999, 1000, 1001] {
-        list.sheet(format!("{count}").as_bytes());
-        list.sheet(format!("{count} \n").as_bytes());
-        list.sheet(format!("0{count}\n").as_bytes());
-        list.sheet(format!("{count}\n{count}\n").as_bytes());
-        list.sheet(format!("{count}\n1 9\n0 0").as_bytes());
-        list.sheet(format!("{count}\n1 9\n0 0\n9\n0\n").as_bytes());
-        list.sheet(format!("1\n0 0\n{count}").as_bytes());
-        list.sheet(format!("1\n0 0\n{count}\n").as_bytes());
-        list.sheet(format!("1\n0 0\n{count}\n1 9\n00 0\n").as_bytes());
-    }
-}
-
-/// Counts of two digits that are met, and one of four digits that is not, after many lines.
-fn many_lines(list: &mut List) {
-    let lines = |count| "0 1\n".repeat(count);
-    list.sheet(format!("10\n{}0\n", lines(10)).as_bytes());
-    list.sheet(format!("0\n11\n{}", lines(11)).as_bytes());
-    list.sheet(format!("0\n11\n{}", lines(12)).as_bytes());
-    list.sheet(format!("0\n1000\n{}", lines(97)).as_bytes());
-}
-
-fn damages(list: &mut List) {
-    for sheet in SMALL {
-        damage(list, sheet);
-        for place in 0..sheet.len() {
-            for byte in BYTES {
-                list.spliced(sheet, place, 0, &[byte]);
-            }
-        }
-    }
-    for sheet in LARGER {
-        damage(list, sheet);
-    }
-}
-
-/// The sheet itself and every beginning of it; each of its bytes taken out, doubled, or replaced;
-/// bytes after its end.
-fn damage(list: &mut List, sheet: &[u8]) {
-    list.sheet(sheet);
-    for (place, &old) in sheet.iter().enumerate() {
-        list.sheet(&sheet[..place]);
-        list.spliced(sheet, place, 1, &[]);
-        list.spliced(sheet, place, 1, &[old, old]);
-        for new in BYTES {
-            list.spliced(sheet, place, 1, &[new]);
-        }
-    }
-    for byte in BYTES {
-        list.spliced(sheet, sheet.len(), 0, &[byte]);
-    }
-    for rest in [
-        &b"\n\n"[..],
-        b"\r\n",
-        b"0\n",
-        b"00",
-        b"0 0\n",
-        b" 9\n1",
-        sheet,
-    ] {
-        list.spliced(sheet, sheet.len(), 0, rest);
-    }
-}
-
-/// Every text of up to three bytes of the alphabet.
-fn every_short_text(list: &mut List) {
-    let letters = ALPHABET.len();
-    for length in 0..=3 {
-        for which in 0..letters.pow(length) {
-            let text: Vec<u8> = (0..length)
-                .map(|place| ALPHABET[which / letters.pow(place) % letters])
-                .collect();
-            list.sheet(&text);
-        }
-    }
-}
-
-/// Two to six lines, each good somewhere.
-fn lines_in_any_order(list: &mut List, random: &mut Random) {
-    let lines: [&[u8]; 8] = [
-        b"0\n", b"0\n", b"1\n", b"1\n", b"2\n", b"0 1\n", b"9 0\n", b"1 10\n",
-    ];
-    for _ in 0..200 {
-        let count = 2 + random.number() % 5;
-        let chosen = (0..count).map(|_| one_of(&lines, random));
-        list.sheet(&chosen.collect::<Vec<_>>().concat());
-    }
-}
-
-/// Texts over the alphabet, some of them behind lines that are good there, until the list is full.
-fn any_text(list: &mut List, random: &mut Random) {
-    let before: [&[u8]; 6] = [b"", b"0\n", b"1\n", b"0\n1\n", b"1\n9 1\n", b"2\n0 0\n"];
-    while list.text.len() < LARGEST_LIST - 40 {
-        let length = 2 + random.number() % 9;
-        let text: Vec<u8> = (0..length).map(|_| one_of(ALPHABET, random)).collect();
-        list.sheet(&[one_of(&before, random), &text].concat());
-    }
-}
-
-fn one_of<T: Copy>(all: &[T], random: &mut Random) -> T {
-    all[random.number() as usize % all.len()]
-}
-
 #[cfg(test)]
 mod tests {
     use super::*;
+    use second::sheet::EXAMPLE;
+    use second::sheet_list::{LARGER, LARGEST_LIST, SMALL};
+    use std::collections::HashSet;
 
     #[test]
     fn answers_of_worked_points() {
@@ -500,7 +106,7 @@ mod tests {
     /// What is said of the list: its size, the sizes of the sheets, and that they come back from it.
     #[test]
     fn size_of_the_list() {
-        let text = list();
+        let text = written_out();
         assert!(text.len() <= LARGEST_LIST);
         let sheets = sheets_of(&text);
         let distinct: HashSet<&[u8]> = sheets.iter().copied().collect();

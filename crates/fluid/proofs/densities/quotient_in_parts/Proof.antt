@@ -8,14 +8,14 @@ use Rattle.fluid.proofs.densities.quotient_in_parts.Statement.{statemen
 use Rattle.fluid.proofs.densities.quotient_in_parts.Tie as tie
 
 -- the first part's quotient, the carried remainder, and that the parts make the whole
-record Parts (x c y m : ℕ) : Type 0 where
+record Parts (x c m : ℕ) : Type 0 where
   carried : x % m * c ≤ m * c
-  whole : x / m * c + (x % m * c + y) / m ≡ (x * c + y) / m
+  whole : x / m * c + x % m * c / m ≡ x * c / m
 
-parts : (c : tie.Start) → Parts (c .args .x) (c .args .c) (c .args .y) (c .args .m)
+parts : (c : tie.Start) → Parts (c .args .x) (c .args .c) (c .args .m)
 parts c =
     let some = c .pre .some-divisor in
-    record { carried = mul-le-mul-right _ (le-of-lt (mod-lt _ some)); whole = in-parts _ _ _ _ some }
+    record { carried = mul-le-mul-right _ (le-of-lt (mod-lt _ some)); whole = in-parts _ _ _ some }
 
 div-result : tie.Need-div-result
 div-result c = c .pre .some-divisor
@@ -29,14 +29,11 @@ rem-result c = c .pre .some-divisor
 mul-result-2 : tie.Need-mul-result-2
 mul-result-2 c = omega (arith, parts c)
 
-add-result : tie.Need-add-result
-add-result c = omega (arith, parts c)
-
 div-result-2 : tie.Need-div-result-2
 div-result-2 c = c .pre .some-divisor
 
-add-result-2 : tie.Need-add-result-2
-add-result-2 c = omega (arith, parts c)
+add-result : tie.Need-add-result
+add-result c = omega (arith, parts c)
 
 returns : tie.Need-returns
 returns c = parts c .whole
@@ -49,7 +46,6 @@ quotient-in-parts-spec =
     mul-result
     rem-result
     mul-result-2
-    add-result
     div-result-2
-    add-result-2
+    add-result
     returns)

@@ -1,45 +1,64 @@
 -- `fluid::root::square_root` meets its contract. The loop's invariant: the guess is not below the root, and not large. The measure is the
 -- guess. Assumes nothing.
-use Prim.Native.Nat.{_+_, _*_, _≤_, _<_}
-use native.Mathlib.Nat.{mul-le-mul, div-le-self}
+use Prim.Native.Nat.{_+_, _*_, _/_, _≤_, _<_}
+use native.Mathlib.Nat.{mul-le-mul}
 use native.Mathlib.Omega.{arith}
-use Rattle.fluid.proofs.Squares.{square-root, step-stays-above, some-guess, step-falls}
+use Rattle.fluid.specs.Inside.{largestSquare}
+use Rattle.fluid.proofs.Quotients.{quotient-grows}
+use Rattle.fluid.proofs.Squares.{square-root, step-stays-above, step-stays-near, some-guess, step-falls}
 use Rattle.fluid.proofs.root.square_root.Statement.{statement}
 use Rattle.fluid.proofs.root.square_root.Tie as tie
 
 abbrev Inv-loop : tie.InvT-loop
-Inv-loop n root₀ root = (n < (root + 1) * (root + 1)) × (root ≤ 200000)
+Inv-loop n closer root₀ root = (n < (root + 1) * (root + 1)) × (root ≤ 1000000)
 
 abbrev μ-loop : tie.MeasureT-loop
-μ-loop n root₀ root = root
+μ-loop n closer root₀ root = root
+
+-- the step from the first guess leads to one that is neither 0 nor large
+closer : (c : tie.After-step Inv-loop μ-loop) → (0 < c .step .result) × (c .step .result ≤ 600000)
+closer c =
+    let n = c .before .before .args .n in
+    let guess = c .before .first-guess in
+    let over : n / guess .result ≤ largestSquare / 4835 = quotient-grows {y = largestSquare} (omega arith) (guess .ensures .from) (c .before .before .pre) in
+    omega (arith, c .step .ensures, guess .ensures, over)
 
 -- a turn is made only from a guess whose square is above n
-above : (c : tie.In-loop Inv-loop μ-loop) → c .before .before .args .n < c .before .loop .root * c .before .loop .root
+above : (c : tie.In-loop Inv-loop μ-loop) → c .before .before .before .before .before .args .n < c .before .loop .root * c .before .loop .root
 above c = omega arith
 
-add-root : tie.Need-add-root Inv-loop μ-loop
-add-root c = omega arith
+falls : (c : tie.After-step3 Inv-loop μ-loop) → c .step3 .result < c .before .before .loop .root
+falls c = rw (c .step3 .ensures) (step-falls _ _ (above (c .before)))
+
+first-guess-requires : tie.Need-first-guess-requires Inv-loop μ-loop
+first-guess-requires c κs = c .pre
+
+step-requires : tie.Need-step-requires Inv-loop μ-loop
+step-requires c κs = (c .before .pre, omega (arith, c .first-guess .ensures))
+
+step-requires-2 : tie.Need-step-requires-2 Inv-loop μ-loop
+step-requires-2 c κs = (c .before .before .pre, omega (arith, closer c))
 
 loop-holds : tie.Need-loop-holds Inv-loop μ-loop
-loop-holds c = (step-stays-above _ 20000 (omega arith), omega arith)
+loop-holds c =
+    let first = c .before in
+    let some = closer first .0 in
+    let not-below : first .before .before .args .n < (first .step .result + 1) * (first .step .result + 1) = rw (first .step .ensures) (step-stays-above _ _ (omega (arith, first .before .first-guess .ensures))) in
+    (rw (c .step2 .ensures) (step-stays-above _ _ some), omega (arith, c .step2 .ensures, closer first, step-stays-near _ _ some not-below))
 
 mul-loop : tie.Need-mul-loop Inv-loop μ-loop
 mul-loop c =
-    let small : c .loop .root ≤ 200000 = omega arith in
+    let small : c .loop .root ≤ 1000000 = omega arith in
     omega (arith, mul-le-mul small small)
 
-div-root : tie.Need-div-root Inv-loop μ-loop
-div-root c = some-guess (above c)
-
-add-root-2 : tie.Need-add-root-2 Inv-loop μ-loop
-add-root-2 c = omega (arith, div-le-self (c .before .before .args .n) (c .before .loop .root))
+step-requires-3 : tie.Need-step-requires-3 Inv-loop μ-loop
+step-requires-3 c κs = (omega arith, record { some = some-guess (above c); small = omega arith })
 
 loop-less : tie.Need-loop-less Inv-loop μ-loop
-loop-less c = step-falls _ _ (above c)
+loop-less c = falls c
 
 loop-again : tie.Need-loop-again Inv-loop μ-loop
-loop-again c =
-    (step-stays-above _ _ (some-guess (above c)), omega (arith, step-falls _ _ (above c)))
+loop-again c = (rw (c .step3 .ensures) (step-stays-above _ _ (some-guess (above (c .before)))), omega (arith, falls c))
 
 returns : tie.Need-returns Inv-loop μ-loop
 returns c = square-root (omega arith) (omega arith)
@@ -50,11 +69,12 @@ square-root-spec =
     (tie.spec
     Inv-loop
     μ-loop
-    add-root
+    first-guess-requires
+    step-requires
+    step-requires-2
     loop-holds
     mul-loop
-    div-root
-    add-root-2
+    step-requires-3
     loop-less
     loop-again
     returns)

@@ -1,0 +1,25 @@
+// The roots of a state, or its refusal: all of a call but the slot and the densities.
+ghost use Rattle.state.specs.Inside.{Searches};
+use crate::answers::Roots;
+use crate::answers::both_roots;
+use crate::checks::Checked;
+use crate::checks::check;
+use crate::replies::Reply;
+use fluid::Fluid;
+
+pub(crate) enum Searched {
+    Found { fluid: Fluid, roots: Roots },
+    Refused(Reply),
+}
+
+pub(crate) fn search(number: u64, millikelvin: u64, pascals: u64, start: u64) -> Searched
+    ensures { λ r. ⌜ Searches number millikelvin pascals r ⌝ }
+{
+    match check(number, millikelvin, pascals) {
+        Checked::Refused(refusal) => Searched::Refused(refusal),
+        Checked::Accepted { fluid, reduced } => {
+            let roots = both_roots(reduced.a, reduced.b, start);
+            Searched::Found { fluid, roots }
+        }
+    }
+}

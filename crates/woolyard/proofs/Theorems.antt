@@ -1,0 +1,84 @@
+-- What is proved of the boundary, beside its contracts: each fixes the number and every value that its caller lent, and nothing that a book holds
+-- changes either. Assumes nothing.
+use mathlib.Core.Path.{_≡_, refl, sym, ap, _∙_}
+use mathlib.Core.List.{List, _∷_, []}
+use Prim.Native.Nat.{ℕ}
+use lib.Ieee.{Float}
+use lib.ListN.{length}
+use Rattle.state.specs.declared.replies.Reply.{Reply}
+use Rattle.state.specs.declared.replies.Figures.{Figures}
+use Rattle.state.specs.Figures.{figuresOf, refusedWith}
+use Rattle.state.specs.Book.{Placed}
+use Rattle.state.proofs.Theorems as state
+use Rattle.heat.specs.declared.replies.HeatCapacity.{HeatCapacity}
+use Rattle.heat.specs.Replies.{numberOf}
+use Rattle.heat.proofs.Theorems as heat
+use Rattle.sheets.specs.declared.replies.Reading.{Reading}
+use Rattle.sheets.specs.declared.replies.LineReading.{LineReading}
+use Rattle.sheets.specs.Figures.{sheetFigures, lineFigures}
+use Rattle.sheets.specs.Replies.{shown}
+use Rattle.sheets.proofs.Theorems as sheets
+use Rattle.woolyard.specs.States.{fiveOf, Laid, StateAnswers, BookAnswers}
+use Rattle.woolyard.specs.Heats.{heatAfter, HeatAnswers}
+use Rattle.woolyard.specs.Sheets.{readingOf, SheetAnswers, stateOf, LineAnswers}
+
+same-laid : {reply other : Reply} {number number′ : ℕ} {figures figures′ : List ℕ} → reply ≡ other → Laid reply number figures → Laid other number′ figures′ → (number ≡ number′) × (figures ≡ figures′)
+same-laid same p q = (
+  p .is-number ∙ ap (λ (r : Reply). figuresOf r .number) same ∙ sym (q .is-number),
+  p .is-figures ∙ ap (λ (r : Reply). fiveOf (figuresOf r)) same ∙ sym (q .is-figures),
+)
+
+-- ---- states
+module _ (fluid millikelvin pascals : ℕ) where
+  pub state-determined : (number number′ : ℕ) (figures figures′ : List ℕ) → StateAnswers fluid millikelvin pascals number figures → StateAnswers fluid millikelvin pascals number′ figures′ → (number ≡ number′) × (figures ≡ figures′)
+  state-determined number number′ figures figures′ p q =
+      same-laid (state.reply-determined fluid millikelvin pascals (p .reply) (q .reply) (p .replies) (q .replies)) (p .laid) (q .laid)
+
+  module _ (slot : ℕ) where
+    -- any two books of one length get the same number and the same figures
+    pub book-never-matters : (book other : List ℕ) → length book ≡ length other → {number number′ : ℕ} {figures figures′ after after′ : List ℕ} → BookAnswers fluid millikelvin pascals slot book number figures after → BookAnswers fluid millikelvin pascals slot other number′ figures′ after′ → (number ≡ number′) × (figures ≡ figures′)
+    book-never-matters book other same p q =
+        same-laid (state.book-never-matters fluid millikelvin pascals slot book other same (p .called) (q .called)) (p .laid) (q .laid)
+
+    -- and where the book has the slot, the call without a book gets them too
+    pub same-without-book : {book after figures figures′ : List ℕ} {number number′ : ℕ} → Placed slot (length book) → BookAnswers fluid millikelvin pascals slot book number figures after → StateAnswers fluid millikelvin pascals number′ figures′ → (number ≡ number′) × (figures ≡ figures′)
+    same-without-book placed p q =
+        same-laid (state.same-without-book fluid millikelvin pascals slot placed (p .called) (q .replies)) (p .laid) (q .laid)
+
+    pub state-with-book-determined : (book : List ℕ) {number number′ : ℕ} {figures figures′ after after′ : List ℕ} → BookAnswers fluid millikelvin pascals slot book number figures after → BookAnswers fluid millikelvin pascals slot book number′ figures′ after′ → ((number ≡ number′) × (figures ≡ figures′)) × (after ≡ after′)
+    state-with-book-determined book p q =
+        let same = state.call-determined fluid millikelvin pascals slot book (p .called) (q .called) in
+        (same-laid (same .0) (p .laid) (q .laid), same .1)
+
+-- a refused state's figures are zeros, and its book is as it was
+pub refused-lays-zeros : {reply : Reply} {number : ℕ} {figures : List ℕ} → Laid reply number figures → (number ≡ 0 → ⊥) → figures ≡ 0 ∷ 0 ∷ 0 ∷ 0 ∷ 0 ∷ []
+refused-lays-zeros {reply} laid refused =
+    laid .is-figures ∙ ap fiveOf (state.refused-carries-zeros reply (λ answered. refused (laid .is-number ∙ answered)))
+
+pub refused-changes-no-book : {fluid millikelvin pascals slot number : ℕ} {book figures after : List ℕ} → BookAnswers fluid millikelvin pascals slot book number figures after → (number ≡ 0 → ⊥) → after ≡ book
+refused-changes-no-book p refused =
+    state.refused-changes-nothing _ _ _ _ (p .reply) (λ answered. refused (p .laid .is-number ∙ answered)) (p .called)
+
+-- ---- the heat capacity
+pub heat-determined : (kelvin before : Float) (number number′ : ℕ) (after after′ : Float) → HeatAnswers kelvin before number after → HeatAnswers kelvin before number′ after′ → (number ≡ number′) × (after ≡ after′)
+heat-determined kelvin before number number′ after after′ p q =
+    let same = heat.reply-determined kelvin (p .reply) (q .reply) (p .answers) (q .answers) in (
+      p .is-number ∙ ap numberOf same ∙ sym (q .is-number),
+      p .leaves ∙ ap (heatAfter before) same ∙ sym (q .leaves),
+    )
+
+-- ---- sheets
+module _ (bytes : List ℕ) where
+  pub sheet-determined : (number number′ : ℕ) (reading reading′ : List ℕ) → SheetAnswers bytes number reading → SheetAnswers bytes number′ reading′ → (number ≡ number′) × (reading ≡ reading′)
+  sheet-determined number number′ reading reading′ p q =
+      let same = sheets.reading-determined bytes (p .reply) (q .reply) (p .reads-as) (q .reads-as) in (
+        p .is-number ∙ ap (λ (r : Reading). sheetFigures r .number) same ∙ sym (q .is-number),
+        p .is-reading ∙ ap (λ (r : Reading). readingOf (sheetFigures r) (length (shown bytes r))) same ∙ sym (q .is-reading),
+      )
+
+  pub sheet-line-determined : (k number number′ : ℕ) (state state′ : List ℕ) → LineAnswers bytes k number state → LineAnswers bytes k number′ state′ → (number ≡ number′) × (state ≡ state′)
+  sheet-line-determined k number number′ state state′ p q =
+      let same = sheets.line-determined bytes k (p .reply) (q .reply) (p .reads-as) (q .reads-as) in (
+        p .is-number ∙ ap (λ (r : LineReading). lineFigures r .number) same ∙ sym (q .is-number),
+        p .is-state ∙ ap (λ (r : LineReading). stateOf (lineFigures r)) same ∙ sym (q .is-state),
+      )

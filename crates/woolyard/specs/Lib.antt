@@ -1,0 +1,4 @@
+-- What a reader must believe of the boundary: which of a reply's figures lie where in what the caller lent.
+pub mod States
+pub mod Heats
+pub mod Sheets

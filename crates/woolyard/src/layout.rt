@@ -1,0 +1,34 @@
+// What the five functions lay before their caller, beyond what the libraries already tell.
+ghost use mathlib.Core.Path.{_≡_};
+ghost use lib.ListN.{length};
+ghost use Rattle.sheets.specs.Replies.{ReadsAs, shown};
+ghost use Rattle.woolyard.specs.States.{Laid};
+use sheets::Reading;
+use state::Reply;
+
+// The paper's number of a reply. Its kind, its roots and its densities go to the caller's array.
+pub(crate) fn lay_figures(reply: Reply, figures: &mut [u64; 5]) -> u64
+    ensures { λ r. ⌜ Laid reply r (now (figures .exit)) ⌝ }
+{
+    let told = reply.figures();
+    *figures = [
+        told.kind,
+        told.gas_root,
+        told.dense_root,
+        told.gas_density,
+        told.dense_density,
+    ];
+    told.number
+}
+
+// The faulty line is looked for only where there is one, so that a good sheet is read once.
+pub(crate) fn faulty_line_length(sheet: &[u8], reading: Reading) -> usize
+    requires { ⌜ ReadsAs (now sheet) reading ⌝ }
+    ensures { λ r. ⌜ r ≡ length (shown (now (sheet .entry)) reading) ⌝ }
+{
+    match reading {
+        Reading::StateLines(_) => 0,
+        Reading::Malformed { place: _ } => sheets::faulty_line(sheet).len(),
+        Reading::TooLong => 0,
+    }
+}

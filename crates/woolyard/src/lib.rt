@@ -1,0 +1,76 @@
+// The boundary to C, Rust and Python: the five functions of include/woolyard.h, each of which answers the
+// paper's number and lays what goes with it where its caller said. C passes a slice as a pointer and then
+// a length, and an array or a number to write as a pointer.
+mod layout;
+
+ghost use Rattle.woolyard.specs.States.{StateAnswers, BookAnswers};
+ghost use Rattle.woolyard.specs.Heats.{HeatAnswers};
+ghost use Rattle.woolyard.specs.Sheets.{SheetAnswers, LineAnswers};
+use crate::layout::faulty_line_length;
+use crate::layout::lay_figures;
+use heat::HeatCapacity;
+
+#[no_mangle]
+pub extern "C" fn woolyard_state(
+    fluid: u64,
+    millikelvin: u64,
+    pascals: u64,
+    figures: &mut [u64; 5],
+) -> u64
+    ensures { λ r. ⌜ StateAnswers fluid millikelvin pascals r (now (figures .exit)) ⌝ }
+{
+    let reply = state::ask(fluid, millikelvin, pascals);
+    lay_figures(reply, figures)
+}
+
+#[no_mangle]
+pub extern "C" fn woolyard_state_with_book(
+    fluid: u64,
+    millikelvin: u64,
+    pascals: u64,
+    slot: u64,
+    book: &mut [u32],
+    figures: &mut [u64; 5],
+) -> u64
+    ensures { λ r. ⌜ BookAnswers fluid millikelvin pascals slot (now (book .entry)) r (now (figures .exit)) (now (book .exit)) ⌝ }
+{
+    let reply = state::ask_with_book(fluid, millikelvin, pascals, slot, book);
+    lay_figures(reply, figures)
+}
+
+// The double of a refused temperature is left as it was.
+#[no_mangle]
+pub extern "C" fn woolyard_heat(kelvin: f64, heat: &mut f64) -> u64
+    ensures { λ r. ⌜ HeatAnswers kelvin (now (heat .entry)) r (now (heat .exit)) ⌝ }
+{
+    let reply = heat::ideal_heat_capacity(kelvin);
+    let number = reply.number();
+    match reply {
+        HeatCapacity::KilojoulesPerKilogramKelvin(answer) => {
+            *heat = answer;
+            number
+        }
+        HeatCapacity::OutOfRange => number,
+    }
+}
+
+#[no_mangle]
+pub extern "C" fn woolyard_sheet(sheet: &[u8], reading: &mut [u64; 3]) -> u64
+    ensures { λ r. ⌜ SheetAnswers (now (sheet .entry)) r (now (reading .exit)) ⌝ }
+{
+    let reply = sheets::read(sheet);
+    let told = reply.figures();
+    let line_length = faulty_line_length(sheet, reply);
+    *reading = [told.state_lines, told.place as u64, line_length as u64];
+    told.number
+}
+
+#[no_mangle]
+pub extern "C" fn woolyard_sheet_line(sheet: &[u8], k: u64, state: &mut [u64; 3]) -> u64
+    ensures { λ r. ⌜ LineAnswers (now (sheet .entry)) k r (now (state .exit)) ⌝ }
+{
+    let reply = sheets::state_line(sheet, k);
+    let told = reply.figures();
+    *state = [told.fluid, told.millikelvin, told.pascals];
+    told.number
+}

@@ -1,0 +1,136 @@
+//! Who is timed, on what, and that all of them answer alike.
+
+use crate::rounds::{interleaved, pass, Pass, Timing};
+use crate::{peer, proved};
+use second::random::Random;
+use second::sheet::State;
+use second::state::reply;
+use std::hint::black_box;
+use woolyard::boundary::FIGURES;
+use woolyard::{Kind, BOOK_LENGTH};
+
+/// The slot that every start is written into, just before the call.
+const SLOT: usize = 17;
+
+/// What is written into the slot for each state, prepared before any clock runs: its own gas root,
+/// that of another state, or zero.
+pub struct Starts {
+    own: Vec<u32>,
+    strangers: Vec<u32>,
+    zeros: Vec<u32>,
+}
+
+impl Starts {
+    /// Also checks that no start changes an answer, and that the slot holds the gas root after it.
+    pub fn new(states: &[State], random: &mut Random) -> Starts {
+        let gas_root = |state| u32::try_from(proved::answer(state).gas_root).expect("32 bits");
+        let own: Vec<u32> = states.iter().map(gas_root).collect();
+        let mut any = || own[random.number() as usize % own.len()];
+        let strangers: Vec<u32> = own.iter().map(|_| any()).collect();
+        let zeros = vec![0; own.len()];
+        for starts in [&own, &strangers, &zeros] {
+            assert_unchanged(states, starts, &own);
+        }
+        Starts {
+            own,
+            strangers,
+            zeros,
+        }
+    }
+}
+
+/// How many of the states are SPLIT.
+pub fn split(states: &[State]) -> usize {
+    let is_split = |state: &&State| proved::answer(state).kind == Kind::Split;
+    states.iter().filter(is_split).count()
+}
+
+fn assert_unchanged(states: &[State], starts: &[u32], gas_roots: &[u32]) {
+    let mut book = [0; BOOK_LENGTH];
+    let [mut without, mut with] = [[0; FIGURES]; 2];
+    for ((state, start), gas_root) in states.iter().zip(starts).zip(gas_roots) {
+        book[SLOT] = *start;
+        let number = proved::state(state, &mut without);
+        let number_with_book = proved::state_with_book(state, SLOT, &mut book, &mut with);
+        assert_eq!((number_with_book, with), (number, without), "{state:?}");
+        assert_eq!(book[SLOT], *gas_root, "{state:?}");
+    }
+}
+
+/// Nanoseconds per state of each contender.
+pub struct Timings {
+    pub call: Timing,
+    pub own_start: Timing,
+    pub strangers_start: Timing,
+    pub zeros: Timing,
+    pub peer: Timing,
+}
+
+impl Timings {
+    pub fn measure(states: &[State], starts: &Starts) -> Timings {
+        let [call, own_start, strangers_start, zeros, peer] = interleaved([
+            calls(states, proved::state),
+            with_book(states, &starts.own),
+            with_book(states, &starts.strangers),
+            with_book(states, &starts.zeros),
+            calls(states, peer::state),
+        ]);
+        Timings {
+            call,
+            own_start,
+            strangers_start,
+            zeros,
+            peer,
+        }
+    }
+}
+
+/// Calls that write their figures, whole numbers or doubles.
+fn calls<'a, Figure: Copy + Default + 'a>(
+    states: &'a [State],
+    call: impl Fn(&State, &mut [Figure; FIGURES]) -> u64 + 'a,
+) -> Pass<'a> {
+    let mut figures = [Figure::default(); FIGURES];
+    Box::new(move || {
+        pass(states, |state| {
+            black_box(call(state, &mut figures));
+            black_box(&figures);
+        })
+    })
+}
+
+/// A start is written before each call, whatever it is, so that this costs the same for all.
+fn with_book<'a>(states: &'a [State], starts: &'a [u32]) -> Pass<'a> {
+    let mut figures = [0; FIGURES];
+    let mut book = [0; BOOK_LENGTH];
+    Box::new(move || {
+        let mut start = starts.iter();
+        pass(states, |state| {
+            book[SLOT] = *start.next().expect("a start for each state");
+            black_box(proved::state_with_book(
+                state,
+                SLOT,
+                &mut book,
+                &mut figures,
+            ));
+            black_box(&figures);
+        })
+    })
+}
+
+/// Nanoseconds per state of the plain scan, in one pass, since it takes long. Also checks that the
+/// proved call answers the same.
+pub fn scan(states: &[State]) -> f64 {
+    states.iter().for_each(assert_scanned);
+    pass(states, |state| {
+        black_box(reply(state.fluid, state.millikelvin, state.pascals));
+    })
+}
+
+fn assert_scanned(state: &State) {
+    let mut figures = [0; FIGURES];
+    let number = proved::state(state, &mut figures);
+    let scanned = reply(state.fluid, state.millikelvin, state.pascals);
+    let expected = (scanned.number, scanned.figures());
+    assert_eq!((number, figures), expected, "{state:?}");
+}

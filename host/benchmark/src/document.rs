@@ -1,0 +1,142 @@
+//! The words around the figures in docs/BENCHMARK.md: on what machine, on which states, and how.
+
+use crate::peer;
+use crate::report::{grouped, percent, Bar, Report};
+use crate::rounds::{ROUNDS, WARM_UP_ROUNDS};
+use second::cubic::N;
+use second::state::{COLDEST, HIGHEST_PRESSURE, HOTTEST, LOWEST_PRESSURE};
+use std::fmt::{Display, Formatter, Result};
+use std::fs;
+
+impl Display for Report {
+    fn fmt(&self, out: &mut Formatter) -> Result {
+        self.write_head(out)?;
+        writeln!(out, "\n## How it is measured\n")?;
+        self.write_method(out)?;
+        writeln!(out, "\n## The states\n")?;
+        self.write_states(out)?;
+        writeln!(out, "\n## Nanoseconds per state\n")?;
+        self.write_times(out)?;
+        writeln!(out, "\n## Ratios and bars\n")?;
+        self.write_bars(out)?;
+        write_about_bars(out)?;
+        writeln!(out, "\n## Program `sheet`\n")?;
+        self.write_programs(out)?;
+        write_about_programs(out)?;
+        writeln!(out, "\n## Where doubles give another whole number\n")?;
+        self.write_about_floors(out)?;
+        self.write_floors(out)
+    }
+}
+
+impl Report {
+    fn write_head(&self, out: &mut Formatter) -> Result {
+        let (model, version) = (machine(), peer::version());
+        let [call, in_doubles] = [self.timings.call.median, self.timings.peer.median];
+        let bars = self.bars();
+        let (met, all) = (bars.iter().filter(|bar| Bar::met(bar)).count(), bars.len());
+        write!(
+            out,
+            "\
+# Benchmark
+
+How long the proved library takes to answer a state, beside the same job as it is usually done: in
+doubles, with the cubic solver of the GNU Scientific Library (GSL).
+
+**A proved call takes {call:.1} ns, the job in doubles {in_doubles:.1} ns. {met} of {all} bars are met.**
+
+- Machine: {model}, x86-64.
+- GSL: {version}, the shared library.
+- Written by `host/benchmark/run`. All figures are of one run; those of time differ from run to run.
+"
+        )
+    }
+
+    fn write_method(&self, out: &mut Formatter) -> Result {
+        let (rounds, scanned) = (grouped(ROUNDS), self.scanned);
+        write!(
+            out,
+            "\
+- The five kinds of call answer all states in each of {rounds} rounds, one kind after another, so that
+  whatever else the machine does falls on all alike; {WARM_UP_ROUNDS} rounds before these aren't counted. A round's
+  time divided by the number of states is its figure. The median round is the one that is judged.
+- The job in doubles, `host/benchmark/peer.c` by gcc with -O2, has the same questions, refusals, formulas
+  and five figures, without the roundings to whole numbers.
+- A book holds starting points, which change how long an answer takes and never what it is. One is
+  written into the slot before each call: the state's own gas root, as where a state is asked again; a
+  stranger's, which is that of another state, drawn at random; or zero.
+- Before the clock runs, every call with a book is checked to answer what the call without one does.
+- The plain scan is the second implementation's, which looks at every place of the grid. It answers
+  {scanned} of the states once, and the proved call is checked to answer the same.
+"
+        )
+    }
+
+    fn write_states(&self, out: &mut Formatter) -> Result {
+        let (timed, share) = (grouped(self.timed), percent(self.split, self.timed));
+        let [lowest, highest, hottest] =
+            [LOWEST_PRESSURE, HIGHEST_PRESSURE, HOTTEST].map(|end| grouped(end as usize));
+        let [hydrogen, oxygen] = COLDEST.map(|coldest| grouped(coldest as usize));
+        let [hydrogen_3, oxygen_3] = COLDEST.map(|coldest| grouped(3 * coldest as usize));
+        write!(
+            out,
+            "\
+{timed} states, the same in every run, all of them accepted. **{share} are SPLIT**: the gas root and
+the dense root differ.
+
+- Fluid: hydrogen or oxygen, one as likely as the other.
+- Pressure: {lowest} to {highest} Pa, every decade as likely as any other.
+- Temperature: in about half of the states anywhere in the fluid's range, hydrogen from {hydrogen} and oxygen
+  from {oxygen} to {hottest} mK. In the others it is at most three times the coldest, {hydrogen_3} and
+  {oxygen_3} mK: SPLIT states lie below the critical temperature, which is under that.
+"
+        )
+    }
+
+    fn write_about_floors(&self, out: &mut Formatter) -> Result {
+        let (counted, n) = (grouped(self.counted), grouped(N as usize));
+        write!(
+            out,
+            "\
+A root is a whole number of hundred-thousandths, rounded down. GSL's gas root times {n} is rounded
+down too and compared with the proved one, over {counted} other states of the same spread. In the first
+row nothing differs but the solver; in the second the paper's roundings of a and b count as well. Where
+a is 0 the root itself is a whole number, and a double that falls short of it has another floor.
+
+"
+        )
+    }
+}
+
+fn write_about_bars(out: &mut Formatter) -> Result {
+    write!(
+        out,
+        "
+The first three are of the median rounds, the last of user times. That last one says little: the second
+implementation scans the whole grid for each state, since it is to be plain and not quick, and almost
+any search beats that.
+"
+    )
+}
+
+fn write_about_programs(out: &mut Formatter) -> Result {
+    write!(
+        out,
+        "
+Both read one full sheet of 1,000 and 1,000 states. These are means of runs that alternate and all print
+the same, byte for byte. A kernel that samples by ticks may count a short run's system time as user time.
+"
+    )
+}
+
+/// The processor's model, as the kernel names it.
+fn machine() -> String {
+    let text = fs::read_to_string("/proc/cpuinfo").unwrap_or_default();
+    let model = text
+        .lines()
+        .find_map(|line| line.strip_prefix("model name"));
+    match model {
+        Some(rest) => rest.trim_start_matches([' ', '\t', ':']).to_string(),
+        None => "a processor without a name".to_string(),
+    }
+}

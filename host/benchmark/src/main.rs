@@ -1,0 +1,51 @@
+//! How long the proved library takes, beside the same job in doubles and the plain scan.
+//!
+//! Run from the repository's root by `host/benchmark/run`. It prints what it measured, writes the
+//! same to docs/BENCHMARK.md, and ends with status 1 where a bar is missed.
+
+mod contenders;
+mod document;
+mod floors;
+mod peer;
+mod programs;
+mod proved;
+mod report;
+mod rounds;
+mod states;
+
+use contenders::{Starts, Timings};
+use report::Report;
+use second::random::Random;
+use std::process::ExitCode;
+
+/// How many states the calls are timed on, how many of these are scanned too, and over how many
+/// others the floors are counted.
+const TIMED_STATES: usize = 20_000;
+const SCANNED_STATES: usize = 200;
+const COUNTED_STATES: usize = 200_000;
+
+const WRITTEN: &str = "docs/BENCHMARK.md";
+
+fn main() -> ExitCode {
+    let mut random = Random(0x5EED);
+    let timed = states::spread(TIMED_STATES, &mut random);
+    let counted = states::spread(COUNTED_STATES, &mut random);
+    let every = TIMED_STATES / SCANNED_STATES;
+    let scanned: Vec<_> = timed.iter().step_by(every).copied().collect();
+    let starts = Starts::new(&timed, &mut random);
+    let report = Report {
+        timed: timed.len(),
+        split: contenders::split(&timed),
+        scanned: scanned.len(),
+        counted: counted.len(),
+        timings: Timings::measure(&timed, &starts),
+        scan: contenders::scan(&scanned),
+        programs: programs::user_times(),
+        solver: floors::of_solver(&counted),
+        peer: floors::of_peer(&counted),
+    };
+    let text = report.to_string();
+    print!("{text}");
+    std::fs::write(WRITTEN, text).unwrap_or_else(|error| panic!("{WRITTEN}: {error}"));
+    ExitCode::from(u8::from(!report.all_bars_met()))
+}

@@ -1,0 +1,34 @@
+//! The proved library, asked for the states of the second implementation.
+
+use second::sheet::State;
+use woolyard::boundary::{self, FIGURES};
+use woolyard::{Answer, Fluid, BOOK_LENGTH};
+
+/// The reply's number; the figures are written.
+#[inline]
+pub fn state(state: &State, figures: &mut [u64; FIGURES]) -> u64 {
+    boundary::state(state.fluid, state.millikelvin, state.pascals, figures)
+}
+
+/// The same with a book, which may hold anything.
+#[inline]
+pub fn state_with_book(
+    state: &State,
+    slot: usize,
+    book: &mut [u32; BOOK_LENGTH],
+    figures: &mut [u64; FIGURES],
+) -> u64 {
+    let State {
+        fluid,
+        millikelvin,
+        pascals,
+    } = *state;
+    boundary::state_with_book(fluid, millikelvin, pascals, slot as u64, book, figures)
+}
+
+/// The answer to a state that the library accepts.
+pub fn answer(accepted: &State) -> Answer {
+    let answer = Fluid::try_from(accepted.fluid)
+        .and_then(|fluid| woolyard::state(fluid, accepted.millikelvin, accepted.pascals));
+    answer.unwrap_or_else(|refusal| panic!("{accepted:?}: {refusal}"))
+}

@@ -1,0 +1,174 @@
+//! What was measured: the tables of docs/BENCHMARK.md, and the bars.
+
+use crate::contenders::Timings;
+use crate::floors::{with_a_zero, Difference};
+use crate::programs::{UserTimes, PROVED_RUNS, SECOND_RUNS};
+use crate::rounds::Timing;
+use std::fmt::{Formatter, Result};
+
+/// Everything of one run. The first four say how many states something was done on.
+pub struct Report {
+    pub timed: usize,
+    pub split: usize,
+    pub scanned: usize,
+    pub counted: usize,
+    pub timings: Timings,
+    pub scan: f64,
+    pub programs: UserTimes,
+    pub solver: Vec<Difference>,
+    pub peer: Vec<Difference>,
+}
+
+/// A measured ratio, and the most it may be.
+pub struct Bar {
+    of: &'static str,
+    ratio: f64,
+    most: f64,
+}
+
+impl Bar {
+    pub fn met(&self) -> bool {
+        self.ratio <= self.most
+    }
+}
+
+impl Report {
+    pub fn all_bars_met(&self) -> bool {
+        self.bars().iter().all(Bar::met)
+    }
+
+    pub fn bars(&self) -> [Bar; 4] {
+        let bar = |of, above: f64, below: f64, most| Bar {
+            of,
+            ratio: above / below,
+            most,
+        };
+        let times = &self.timings;
+        let zeros = times.zeros.median;
+        let UserTimes { proved, second } = self.programs;
+        [
+            bar(
+                "proved call / GSL",
+                times.call.median,
+                times.peer.median,
+                1.0,
+            ),
+            bar("own gas root / zeros", times.own_start.median, zeros, 0.8),
+            bar(
+                "stranger's gas root / zeros",
+                times.strangers_start.median,
+                zeros,
+                1.1,
+            ),
+            bar(
+                "program `sheet` / second implementation's",
+                proved,
+                second,
+                2.0,
+            ),
+        ]
+    }
+
+    pub fn write_times(&self, out: &mut Formatter) -> Result {
+        let times = &self.timings;
+        let rows = [
+            ("proved call, `woolyard_state`", times.call),
+            (
+                "proved call with a book, its own gas root in the slot",
+                times.own_start,
+            ),
+            (
+                "proved call with a book, a stranger's gas root in the slot",
+                times.strangers_start,
+            ),
+            ("proved call with a book, zeros", times.zeros),
+            (
+                "the same job in doubles, with GSL's `gsl_poly_solve_cubic`",
+                times.peer,
+            ),
+        ];
+        writeln!(out, "| what | median round | quickest round |")?;
+        writeln!(out, "|---|---:|---:|")?;
+        for (what, Timing { median, quickest }) in rows {
+            writeln!(out, "| {what} | {median:.1} | {quickest:.1} |")?;
+        }
+        let scan = grouped(self.scan.round() as usize);
+        writeln!(out, "| the plain scan, in one pass | {scan} | |")
+    }
+
+    pub fn write_programs(&self, out: &mut Formatter) -> Result {
+        let UserTimes { proved, second } = self.programs;
+        writeln!(out, "| program | milliseconds of user time | runs |")?;
+        writeln!(out, "|---|---:|---:|")?;
+        writeln!(out, "| proved | {proved:.2} | {PROVED_RUNS} |")?;
+        let second = grouped(second.round() as usize);
+        writeln!(out, "| second implementation | {second} | {SECOND_RUNS} |")
+    }
+
+    pub fn write_bars(&self, out: &mut Formatter) -> Result {
+        writeln!(out, "| ratio | measured | at most | |")?;
+        writeln!(out, "|---|---:|---:|---|")?;
+        for bar in self.bars() {
+            let verdict = if bar.met() { "met" } else { "MISSED" };
+            let Bar { of, ratio, most } = bar;
+            writeln!(out, "| {of} | {ratio:.4} | {most:.1} | {verdict} |")?;
+        }
+        Ok(())
+    }
+
+    pub fn write_floors(&self, out: &mut Formatter) -> Result {
+        let kinds = [
+            ("the paper's whole numbers a and b", &self.solver),
+            ("a and b in doubles, as it is timed", &self.peer),
+        ];
+        writeln!(
+            out,
+            "| what GSL is given | another whole number | share | of these with a = 0 |"
+        )?;
+        writeln!(out, "|---|---:|---:|---:|")?;
+        for (given, differences) in kinds {
+            let share = percent(differences.len(), self.counted);
+            let count = grouped(differences.len());
+            let a_zero = grouped(with_a_zero(differences));
+            writeln!(out, "| {given} | {count} | {share} | {a_zero} |")?;
+        }
+        writeln!(out, "\nThe first state of each row:\n")?;
+        for (given, differences) in kinds {
+            if let Some(first) = differences.first() {
+                write_difference(out, given, first)?;
+            }
+        }
+        Ok(())
+    }
+}
+
+fn write_difference(out: &mut Formatter, given: &str, difference: &Difference) -> Result {
+    let state = difference.state;
+    let fluid = ["hydrogen", "oxygen"][state.fluid as usize];
+    let [millikelvin, pascals, proved, floor] = [
+        state.millikelvin,
+        state.pascals,
+        difference.proved,
+        difference.floor(),
+    ]
+    .map(|number| grouped(number as usize));
+    let in_doubles = difference.in_doubles;
+    writeln!(
+        out,
+        "\
+- {given}: {fluid} at {millikelvin} mK and {pascals} Pa.
+  Proved {proved}; GSL {in_doubles}, and so {floor}."
+    )
+}
+
+/// With a comma before every three digits.
+pub fn grouped(number: usize) -> String {
+    match number {
+        0..1000 => number.to_string(),
+        _ => format!("{},{:03}", grouped(number / 1000), number % 1000),
+    }
+}
+
+pub fn percent(part: usize, whole: usize) -> String {
+    format!("{:.2} %", 100.0 * part as f64 / whole as f64)
+}

@@ -1,0 +1,55 @@
+//! The clock: rounds in which all contenders come one after another, so that whatever else the machine
+//! does falls on all of them alike.
+
+use second::sheet::State;
+use std::hint::black_box;
+use std::time::Instant;
+
+/// How many rounds run before any is counted, and how many are: an odd number, so that one of them is
+/// the median.
+pub const WARM_UP_ROUNDS: usize = 10;
+pub const ROUNDS: usize = 1001;
+
+/// One pass of a contender over all states: nanoseconds per state.
+pub type Pass<'a> = Box<dyn FnMut() -> f64 + 'a>;
+
+/// Nanoseconds per state, of the middle round and of the quickest.
+#[derive(Clone, Copy)]
+pub struct Timing {
+    pub median: f64,
+    pub quickest: f64,
+}
+
+/// The timing of each contender, in their order.
+pub fn interleaved<const CONTENDERS: usize>(
+    mut contenders: [Pass; CONTENDERS],
+) -> [Timing; CONTENDERS] {
+    let mut passes = [const { Vec::new() }; CONTENDERS];
+    for round in 0..WARM_UP_ROUNDS + ROUNDS {
+        for (contender, passes) in contenders.iter_mut().zip(&mut passes) {
+            let nanoseconds = contender();
+            if round >= WARM_UP_ROUNDS {
+                passes.push(nanoseconds);
+            }
+        }
+    }
+    passes.map(timing)
+}
+
+fn timing(mut passes: Vec<f64>) -> Timing {
+    passes.sort_by(f64::total_cmp);
+    Timing {
+        median: passes[passes.len() / 2],
+        quickest: passes[0],
+    }
+}
+
+/// Nanoseconds per state of one call each. The compiler may not look through the state.
+#[inline]
+pub fn pass(states: &[State], mut call: impl FnMut(&State)) -> f64 {
+    let begin = Instant::now();
+    for state in states {
+        call(black_box(state));
+    }
+    begin.elapsed().as_nanos() as f64 / states.len() as f64
+}

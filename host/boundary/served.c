@@ -1,0 +1,94 @@
+/* Makes calls of woolyard.h's functions for another process, where the archive can't be linked into it.
+ *
+ * Standard input brings batches: the number of a batch's bytes, a word, and its calls one after the other.
+ * Each call is answered where it lies, and the batch is written back. A word has eight bytes, the lowest
+ * first. It needs no C header but the header's own two, as it is also compiled where no others are. */
+#include "woolyard.h"
+
+long read(int file, void *bytes, unsigned long length);
+long write(int file, const void *bytes, unsigned long length);
+
+/* The words of a call. What it lends follows, filled up to whole words. The reply's number takes the place
+ * of the function's. */
+enum { FUNCTION, FIRST, SECOND, THIRD, FOURTH, LENGTH, LENT_BYTES, PLACES, LENT = PLACES + 5 };
+
+enum { STATE, STATE_WITH_BOOK, HEAT, SHEET, SHEET_LINE };
+
+#define WORDS 131072
+
+static union {
+    uint64_t words[WORDS];
+    uint32_t numbers[2 * WORDS];
+    uint8_t bytes[8 * WORDS];
+} batch;
+
+static uint64_t heat(uint64_t kelvin_pattern, uint64_t *place)
+{
+    union {
+        uint64_t pattern;
+        double number;
+    } kelvin = { kelvin_pattern }, answer = { *place };
+    uint64_t number = woolyard_heat(kelvin.number, &answer.number);
+    *place = answer.pattern;
+    return number;
+}
+
+/* Makes the call that begins at this word. */
+static uint64_t make(size_t word)
+{
+    uint64_t *call = batch.words + word;
+    uint32_t *book = batch.numbers + 2 * (word + LENT);
+    const uint8_t *sheet = batch.bytes + 8 * (word + LENT);
+    switch (call[FUNCTION]) {
+    case STATE:
+        return woolyard_state(call[FIRST], call[SECOND], call[THIRD], call + PLACES);
+    case STATE_WITH_BOOK:
+        return woolyard_state_with_book(call[FIRST], call[SECOND], call[THIRD], call[FOURTH], book, call[LENGTH],
+                                        call + PLACES);
+    case HEAT:
+        return heat(call[FIRST], call + PLACES);
+    case SHEET:
+        return woolyard_sheet(sheet, call[LENGTH], call + PLACES);
+    default:
+        return woolyard_sheet_line(sheet, call[LENGTH], call[FIRST], call + PLACES);
+    }
+}
+
+/* Whether so many bytes came before the end of the input. */
+static int take(uint8_t *bytes, uint64_t length)
+{
+    while (length > 0) {
+        long taken = read(0, bytes, length);
+        if (taken <= 0)
+            return 0;
+        bytes += taken;
+        length -= (uint64_t)taken;
+    }
+    return 1;
+}
+
+static int give(const uint8_t *bytes, uint64_t length)
+{
+    while (length > 0) {
+        long given = write(1, bytes, length);
+        if (given <= 0)
+            return 0;
+        bytes += given;
+        length -= (uint64_t)given;
+    }
+    return 1;
+}
+
+int main(void)
+{
+    while (take(batch.bytes, 8)) {
+        uint64_t length = batch.words[0];
+        if (length > sizeof batch || !take(batch.bytes, length))
+            return 1;
+        for (size_t word = 0; 8 * word < length; word += LENT + (batch.words[word + LENT_BYTES] + 7) / 8)
+            batch.words[word + FUNCTION] = make(word);
+        if (!give(batch.bytes, length))
+            return 1;
+    }
+    return 0;
+}

@@ -1,0 +1,132 @@
+//! A call of one of the header's functions: all that goes in, and all that the function may write.
+
+use std::fmt;
+
+/// The functions, by the numbers that a served process knows them by.
+#[derive(Clone, Copy, Debug, PartialEq, Eq)]
+pub enum Function {
+    State = 0,
+    StateWithBook = 1,
+    Heat = 2,
+    Sheet = 3,
+    SheetLine = 4,
+}
+
+/// The names in the header, in the order of the numbers.
+pub const NAMES: [&str; 5] = [
+    "woolyard_state",
+    "woolyard_state_with_book",
+    "woolyard_heat",
+    "woolyard_sheet",
+    "woolyard_sheet_line",
+];
+
+/// What no answered or refused call leaves as its number.
+const NOT_YET_MADE: u64 = u64::MAX;
+
+/// Before the call it holds the question, and after it the answer too, so that two calls are compared
+/// whole: the number, every place, and every lent element, those past the told length among them.
+#[derive(Clone, Debug, PartialEq, Eq)]
+pub struct Call {
+    pub function: Function,
+    /// The plain numbers in the order of the header, a double as its pattern; zeros for the rest.
+    pub arguments: [u64; 4],
+    /// What the function fills in, as far as it has so many; the rest must stay as it was.
+    pub places: [u64; 5],
+    pub book: Vec<u32>,
+    pub sheet: Vec<u8>,
+    /// How many elements of the book or the sheet the function is told of. More may lie behind.
+    pub length: usize,
+    /// The reply's number.
+    pub number: u64,
+}
+
+impl Call {
+    fn new(function: Function, arguments: [u64; 4]) -> Call {
+        Call {
+            function,
+            arguments,
+            places: [0; 5],
+            book: Vec::new(),
+            sheet: Vec::new(),
+            length: 0,
+            number: NOT_YET_MADE,
+        }
+    }
+
+    pub fn state([fluid, millikelvin, pascals]: [u64; 3]) -> Call {
+        Call::new(Function::State, [fluid, millikelvin, pascals, 0])
+    }
+
+    /// The first `length` numbers of `book` are the book.
+    pub fn state_with_book(state: [u64; 3], slot: u64, book: &[u32], length: usize) -> Call {
+        let [fluid, millikelvin, pascals] = state;
+        let arguments = [fluid, millikelvin, pascals, slot];
+        Call {
+            book: book.to_vec(),
+            length,
+            ..Call::new(Function::StateWithBook, arguments)
+        }
+    }
+
+    pub fn heat(kelvin_pattern: u64) -> Call {
+        Call::new(Function::Heat, [kelvin_pattern, 0, 0, 0])
+    }
+
+    /// The first `length` bytes of `sheet` are the sheet.
+    pub fn sheet(sheet: &[u8], length: usize) -> Call {
+        Call {
+            sheet: sheet.to_vec(),
+            length,
+            ..Call::new(Function::Sheet, [0; 4])
+        }
+    }
+
+    /// As for `sheet`.
+    pub fn sheet_line(sheet: &[u8], length: usize, k: u64) -> Call {
+        Call {
+            function: Function::SheetLine,
+            arguments: [k, 0, 0, 0],
+            ..Call::sheet(sheet, length)
+        }
+    }
+}
+
+/// Of a call that was made, the answer; of one that was not, the question and what lay in the places.
+impl fmt::Display for Call {
+    fn fmt(&self, text: &mut fmt::Formatter<'_>) -> fmt::Result {
+        if self.number == NOT_YET_MADE {
+            let asked = self.asked();
+            write!(text, "{}({asked}) over ", NAMES[self.function as usize])?;
+        } else {
+            write!(text, "{} and ", self.number)?;
+        }
+        match self.function {
+            Function::Heat => write!(text, "{:#018x}", self.places[0]),
+            _ => write!(text, "{:?}", self.places),
+        }?;
+        match self.function {
+            Function::State | Function::Heat => Ok(()),
+            Function::StateWithBook => write!(text, ", book {:?}", self.book),
+            Function::Sheet | Function::SheetLine => {
+                write!(text, ", sheet \"{}\"", self.sheet.escape_ascii())
+            }
+        }
+    }
+}
+
+impl Call {
+    /// The arguments with their names.
+    fn asked(&self) -> String {
+        let [first, second, third, fourth] = self.arguments;
+        let state = format!("fluid {first}, millikelvin {second}, pascals {third}");
+        let length = self.length;
+        match self.function {
+            Function::State => state,
+            Function::StateWithBook => format!("{state}, slot {fourth}, book length {length}"),
+            Function::Heat => format!("kelvin {first:#018x} or {}", f64::from_bits(first)),
+            Function::Sheet => format!("length {length}"),
+            Function::SheetLine => format!("length {length}, k {first}"),
+        }
+    }
+}

@@ -1,0 +1,164 @@
+//! Asks the archive and the second implementation the same, and stops at the first difference.
+
+use crate::boundary::Boundary;
+use crate::call::Call;
+use crate::second_side::Second;
+use second::heat::NOT_NUMBERS;
+use second::random::Random;
+use std::io;
+
+/// The first difference in one line, or why there was no answer.
+pub type Outcome = Result<(), String>;
+
+/// How many calls were made of each function.
+pub type Counts = [u64; 5];
+
+/// How much waits before it is asked at once. A served process reads a batch into 1 MiB; each call adds
+/// less than a hundred bytes to what it lends, and the last one lends less than half of that.
+const MOST_CALLS: usize = 2000;
+const MOST_LENT_BYTES: usize = 300_000;
+
+pub struct Comparison {
+    archive: Box<dyn Boundary>,
+    second: Second,
+    junk: Random,
+    waiting: Vec<Call>,
+    lent_bytes: usize,
+    pub counts: Counts,
+}
+
+impl Comparison {
+    pub fn new(archive: Box<dyn Boundary>) -> Comparison {
+        Comparison {
+            archive,
+            second: Second::default(),
+            junk: Random(0),
+            waiting: Vec::new(),
+            lent_bytes: 0,
+            counts: Counts::default(),
+        }
+    }
+
+    /// From here on the junk is the same in every run.
+    pub fn begin(&mut self, seed: u64) {
+        self.junk = Random(seed);
+        self.counts = Counts::default();
+    }
+
+    /// Has this call compared, at once or by the next `settle`. The places are filled with junk, so that
+    /// one which should be written and is not shows, and one that should not be and is.
+    pub fn ask(&mut self, mut call: Call) -> Outcome {
+        call.places = [(); 5].map(|()| self.junk());
+        self.counts[call.function as usize] += 1;
+        self.lent_bytes += 4 * call.book.len() + call.sheet.len();
+        self.waiting.push(call);
+        if self.waiting.len() >= MOST_CALLS || self.lent_bytes >= MOST_LENT_BYTES {
+            return self.settle();
+        }
+        Ok(())
+    }
+
+    /// Any number, or the pattern of a NaN, which a copy as a double might change.
+    fn junk(&mut self) -> u64 {
+        let any = self.junk.number();
+        let pattern = NOT_NUMBERS[any as usize % NOT_NUMBERS.len()];
+        match any >> 62 {
+            0 => pattern,
+            1 => pattern | 1 << 63,
+            _ => any,
+        }
+    }
+
+    /// Compares all that waits.
+    pub fn settle(&mut self) -> Outcome {
+        let questions = std::mem::take(&mut self.waiting);
+        self.lent_bytes = 0;
+        let archive = made(self.archive.as_mut(), &questions)
+            .map_err(|error| format!("the archive gives no answer: {error}"))?;
+        let second = made(&mut self.second, &questions).map_err(|error| error.to_string())?;
+        for ((question, archive), second) in questions.iter().zip(archive).zip(second) {
+            if archive != second {
+                return Err(format!(
+                    "{question}: the archive answers {archive}; the second implementation {second}"
+                ));
+            }
+        }
+        Ok(())
+    }
+
+    /// For parts that choose questions by what is answered.
+    pub fn second(&mut self) -> &mut Second {
+        &mut self.second
+    }
+}
+
+fn made(boundary: &mut dyn Boundary, questions: &[Call]) -> io::Result<Vec<Call>> {
+    let mut calls = questions.to_vec();
+    boundary.make(&mut calls)?;
+    Ok(calls)
+}
+
+#[cfg(test)]
+mod tests {
+    use super::*;
+
+    /// The second implementation in the archive's stead, with one answer changed.
+    struct Changed(fn(&mut Call));
+
+    impl Boundary for Changed {
+        fn make(&mut self, calls: &mut [Call]) -> io::Result<()> {
+            Second::default().make(calls)?;
+            calls.last_mut().map(self.0);
+            Ok(())
+        }
+    }
+
+    fn outcome(calls: Vec<Call>, change: fn(&mut Call)) -> Outcome {
+        let mut comparison = Comparison::new(Box::new(Changed(change)));
+        for call in calls {
+            comparison.ask(call)?;
+        }
+        comparison.settle()
+    }
+
+    fn calls() -> Vec<Call> {
+        let state = [1, 120_000, 500_000];
+        vec![
+            Call::state(state),
+            Call::heat(0),
+            Call::sheet(b"0\n0\n0", 4),
+            Call::state_with_book(state, 63, &[7; 66], 64),
+        ]
+    }
+
+    #[test]
+    fn no_difference() {
+        assert_eq!(outcome(calls(), |_| ()), Ok(()));
+    }
+
+    /// In the number, in a figure, in the slot, in another place of the book, and past its end.
+    #[test]
+    fn differences() {
+        let changes: [fn(&mut Call); 5] = [
+            |call| call.number = 4,
+            |call| call.places[4] += 1,
+            |call| call.book[63] = 7,
+            |call| call.book[0] = 92_696,
+            |call| call.book[64] = 92_696,
+        ];
+        for change in changes {
+            let told = outcome(calls(), change).expect_err("a difference");
+            assert!(told.contains("slot 63") && told.contains("; the second implementation 0 and"));
+        }
+    }
+
+    /// Of a refused heat capacity, whose double stays; of a sheet's bytes; of a place it does not have.
+    #[test]
+    fn differences_of_what_stays() {
+        let heat = || vec![Call::heat(0)];
+        let sheet = || vec![Call::sheet(b"0\n0\n0", 4)];
+        assert!(outcome(heat(), |call| call.places[0] ^= 1).is_err());
+        assert!(outcome(sheet(), |call| call.sheet[0] = b'1').is_err());
+        assert!(outcome(sheet(), |call| call.places[3] ^= 1).is_err());
+    }
+}

@@ -1,0 +1,46 @@
+//! What is compared, in pieces that the workers share out.
+
+mod books;
+mod doubles;
+mod sheets;
+mod split;
+mod states;
+
+use crate::comparison::{Comparison, Outcome};
+use crate::workers::Unit;
+use second::state::COLDEST;
+
+/// Document 01's worked states, the refused ones among them.
+const WORKED: [[u64; 3]; 9] = [
+    [1, 300_000, 1_000_000],
+    [1, 120_000, 500_000],
+    [0, 300_000, 1_000_000],
+    [0, 1_000_000, 10_000],
+    [1, 55_999, 500_000],
+    [1, 56_000, 9_999],
+    [1, 56_000, 10_000],
+    [1, 56_000, 50_000_000],
+    [2, 0, 0],
+];
+
+/// Each fluid's number, its lowest temperature, and the one above which no state is SPLIT, where the
+/// temperature is the critical one; for hydrogen that is 43,600 - 2,180,000,000 / 201,594.
+const FLUIDS: [(u64, u64, u64); 2] = [(0, COLDEST[0], 32_786), (1, COLDEST[1], 154_576)];
+
+/// The quick parts first.
+pub fn units() -> Vec<Unit> {
+    let mut units = doubles::units();
+    units.extend(sheets::units());
+    units.extend(books::units());
+    units.extend(states::units());
+    units.extend(split::units());
+    units
+}
+
+fn unit(
+    part: &'static str,
+    ask: impl Fn(&mut Comparison) -> Outcome + Send + Sync + 'static,
+) -> Unit {
+    let ask = Box::new(ask);
+    Unit { part, ask }
+}

@@ -1,0 +1,123 @@
+//! States of all kinds, each without a book and with one: document 01's, every end of a range, and a
+//! spread over all temperatures and all magnitudes of pressure.
+
+use super::{unit, FLUIDS, WORKED};
+use crate::call::Call;
+use crate::comparison::{Comparison, Outcome};
+use crate::workers::Unit;
+use second::random::Random;
+use second::state::{BOOK, HIGHEST_PRESSURE, HOTTEST, LOWEST_PRESSURE};
+
+const PART: &str = "states";
+
+/// Of each unit of the spread.
+const STATES: usize = 2500;
+const UNITS: u64 = 72;
+
+/// No fluid but the first two, though the fifth and sixth are those to whoever keeps 32 bits.
+const FLUID_NUMBERS: [u64; 7] = [0, 1, 2, 3, 1 << 32, (1 << 32) + 1, u64::MAX];
+
+/// The ends with their neighbours, and what is in range for whoever keeps 32 bits.
+const TEMPERATURES: [u64; 21] = [
+    0,
+    1,
+    13_998,
+    13_999,
+    14_000,
+    14_001,
+    55_998,
+    55_999,
+    56_000,
+    56_001,
+    300_000,
+    999_998,
+    999_999,
+    1_000_000,
+    1_000_001,
+    1_000_002,
+    (1 << 32) - 1,
+    1 << 32,
+    (1 << 32) + 300_000,
+    u64::MAX - 1,
+    u64::MAX,
+];
+
+const PRESSURES: [u64; 18] = [
+    0,
+    1,
+    9_998,
+    9_999,
+    10_000,
+    10_001,
+    1_000_000,
+    49_999_998,
+    49_999_999,
+    50_000_000,
+    50_000_001,
+    50_000_002,
+    (1 << 32) - 1,
+    1 << 32,
+    (1 << 32) + 1_000_000,
+    1 << 63,
+    u64::MAX - 1,
+    u64::MAX,
+];
+
+pub fn units() -> Vec<Unit> {
+    let mut units = vec![unit(PART, worked_points)];
+    units.extend(FLUID_NUMBERS.map(|fluid| unit(PART, move |comparison| ends(comparison, fluid))));
+    units.extend((0..UNITS).map(|seed| unit(PART, move |comparison| spread(comparison, seed))));
+    units
+}
+
+/// Without a book and with one, at any slot of it. The book is empty, as a page begins with, or holds one
+/// number about as large as a root, or, as often as both, anything.
+pub fn both(comparison: &mut Comparison, state: [u64; 3], random: &mut Random) -> Outcome {
+    comparison.ask(Call::state(state))?;
+    let any = random.number();
+    let book: [u32; BOOK] = match any % 4 {
+        0 => [0; BOOK],
+        1 => [any as u32 >> 15; BOOK],
+        _ => [(); BOOK].map(|()| random.number() as u32),
+    };
+    let slot = (any >> 32) % BOOK as u64;
+    comparison.ask(Call::state_with_book(state, slot, &book, BOOK))
+}
+
+fn worked_points(comparison: &mut Comparison) -> Outcome {
+    let mut random = Random(0);
+    for state in WORKED {
+        both(comparison, state, &mut random)?;
+    }
+    Ok(())
+}
+
+/// All combinations of the ends.
+fn ends(comparison: &mut Comparison, fluid: u64) -> Outcome {
+    let mut random = Random(fluid);
+    for millikelvin in TEMPERATURES {
+        for pascals in PRESSURES {
+            both(comparison, [fluid, millikelvin, pascals], &mut random)?;
+        }
+    }
+    Ok(())
+}
+
+/// Half of the pressures of all magnitudes above the lowest, half of them anywhere; temperatures
+/// likewise.
+fn spread(comparison: &mut Comparison, seed: u64) -> Outcome {
+    let mut random = Random(seed);
+    for (fluid, coldest, _) in FLUIDS.into_iter().cycle().take(STATES) {
+        let millikelvin = within(&mut random, coldest, HOTTEST);
+        let pascals = within(&mut random, LOWEST_PRESSURE, HIGHEST_PRESSURE);
+        both(comparison, [fluid, millikelvin, pascals], &mut random)?;
+    }
+    Ok(())
+}
+
+fn within(random: &mut Random, low: u64, high: u64) -> u64 {
+    match random.number() % 2 {
+        0 => low + random.magnitude(high - low),
+        _ => low + random.number() % (high - low + 1),
+    }
+}

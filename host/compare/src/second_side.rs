@@ -1,0 +1,105 @@
+//! The second implementation, asked as the archive is.
+
+use crate::boundary::Boundary;
+use crate::call::{Call, Function};
+use second::heat::heat_capacity;
+use second::sheet::{self, Refusal};
+use second::state::{put_into_book, reply, Reply};
+use std::collections::HashMap;
+use std::io;
+
+/// How many states are remembered before they are forgotten together.
+const MOST_KNOWN: usize = 10_000;
+
+/// Since a scan of the grid is long, each state is answered once for all calls that ask for it soon.
+#[derive(Default)]
+pub struct Second {
+    known: HashMap<[u64; 3], Reply>,
+}
+
+impl Boundary for Second {
+    fn make(&mut self, calls: &mut [Call]) -> io::Result<()> {
+        for call in calls {
+            match call.function {
+                Function::State => self.state(call),
+                Function::StateWithBook => self.state_with_book(call),
+                Function::Heat => heat(call),
+                Function::Sheet => whole_sheet(call),
+                Function::SheetLine => sheet_line(call),
+            }
+        }
+        Ok(())
+    }
+}
+
+impl Second {
+    pub fn reply(&mut self, state: [u64; 3]) -> Reply {
+        if self.known.len() >= MOST_KNOWN {
+            self.known.clear();
+        }
+        let [fluid, millikelvin, pascals] = state;
+        let known = self.known.entry(state);
+        *known.or_insert_with(|| reply(fluid, millikelvin, pascals))
+    }
+
+    fn reply_to(&mut self, call: &Call) -> Reply {
+        let [fluid, millikelvin, pascals, _slot] = call.arguments;
+        self.reply([fluid, millikelvin, pascals])
+    }
+
+    fn state(&mut self, call: &mut Call) {
+        let reply = self.reply_to(call);
+        write_reply(call, reply);
+    }
+
+    fn state_with_book(&mut self, call: &mut Call) {
+        let without = self.reply_to(call);
+        let slot = call.arguments[3];
+        let reply = put_into_book(without, slot, &mut call.book[..call.length]);
+        write_reply(call, reply);
+    }
+}
+
+fn write_reply(call: &mut Call, reply: Reply) {
+    call.number = reply.number;
+    call.places = reply.figures();
+}
+
+/// Where it is refused the place is left alone.
+fn heat(call: &mut Call) {
+    call.number = match heat_capacity(f64::from_bits(call.arguments[0])) {
+        Ok(heat) => {
+            call.places[0] = heat.to_bits();
+            0
+        }
+        Err(number) => number,
+    };
+}
+
+fn whole_sheet(call: &mut Call) {
+    let sheet = &call.sheet[..call.length];
+    let (number, reading) = match sheet::read(sheet) {
+        Ok(states) => (0, [states.len(), 0, 0]),
+        Err(Refusal {
+            number,
+            place,
+            line,
+        }) => {
+            // so that place and length say the bytes of the faulty line too
+            assert_eq!(&sheet[place..][..line.len()], line);
+            (number, [0, place, line.len()])
+        }
+    };
+    call.number = number;
+    call.places[..3].copy_from_slice(&reading.map(|figure| figure as u64));
+}
+
+fn sheet_line(call: &mut Call) {
+    let k = usize::try_from(call.arguments[0]).expect("a machine of 64 bits");
+    let (number, state) = match sheet::state_at(&call.sheet[..call.length], k) {
+        Ok(state) => (0, [state.fluid, state.millikelvin, state.pascals]),
+        Err(number) => (number, [0; 3]),
+    };
+    call.number = number;
+    call.places[..3].copy_from_slice(&state);
+}

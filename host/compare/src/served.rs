@@ -1,0 +1,202 @@
+//! The archive in another process, which answers over its standard input and output: the program
+//! boundary/served.c, or an emulator that runs it.
+//!
+//! A batch is the number of its bytes, a word, and the calls one after the other. A call is twelve
+//! words: the function; four arguments; the length; how many bytes are lent; five places. What is lent
+//! follows, filled up to whole words. Each answer takes the place of its call, with the reply's number
+//! where the function was. A word has eight bytes, the lowest first.
+
+use crate::boundary::Boundary;
+use crate::call::Call;
+use std::io::{self, Read, Write};
+use std::process::{Child, Command, Stdio};
+use std::sync::mpsc::{self, Receiver, Sender};
+use std::thread;
+use std::time::Duration;
+
+/// The words of a call before what is lent.
+const WORDS: usize = 12;
+
+/// Where the places begin among them.
+const PLACES: usize = 7;
+
+const WORD_BYTES: usize = 8;
+
+/// How long the process may take over a batch. One that reads nothing or writes too little would be
+/// waited for without end.
+const PATIENCE: Duration = Duration::from_secs(60);
+
+pub struct Served {
+    process: Child,
+    questions: Sender<Vec<u8>>,
+    answers: Receiver<io::Result<Vec<u8>>>,
+    patience: Duration,
+}
+
+impl Served {
+    pub fn start(command: &[String]) -> io::Result<Served> {
+        let [program, words @ ..] = command else {
+            return Err(io::Error::other("no command to start"));
+        };
+        let mut process = Command::new(program)
+            .args(words)
+            .stdin(Stdio::piped())
+            .stdout(Stdio::piped())
+            .spawn()?;
+        let mut input = process.stdin.take().expect("a pipe to the process");
+        let mut output = process.stdout.take().expect("a pipe from the process");
+        let (questions, batches) = mpsc::channel();
+        let (answered, answers) = mpsc::channel();
+        // It alone can be kept waiting by the process. It ends with the channels, or with this program.
+        thread::spawn(move || {
+            for batch in batches {
+                let answer = exchange(&mut input, &mut output, batch);
+                if answered.send(answer).is_err() {
+                    break;
+                }
+            }
+        });
+        Ok(Served {
+            process,
+            questions,
+            answers,
+            patience: PATIENCE,
+        })
+    }
+
+    /// The batch with its answers.
+    fn ask(&self, batch: Vec<u8>) -> io::Result<Vec<u8>> {
+        self.questions.send(batch).map_err(io::Error::other)?;
+        let answer = self.answers.recv_timeout(self.patience);
+        let late = format!("a batch is not answered in {:?}", self.patience);
+        answer.unwrap_or_else(|_| Err(io::Error::other(late)))
+    }
+}
+
+/// The process reads a whole batch before it answers, so neither waits for the other.
+fn exchange(
+    input: &mut impl Write,
+    output: &mut impl Read,
+    mut batch: Vec<u8>,
+) -> io::Result<Vec<u8>> {
+    input.write_all(&word(batch.len() as u64))?;
+    input.write_all(&batch)?;
+    input.flush()?;
+    output.read_exact(&mut batch)?;
+    Ok(batch)
+}
+
+impl Boundary for Served {
+    fn make(&mut self, calls: &mut [Call]) -> io::Result<()> {
+        let batch = self.ask(calls.iter().flat_map(bytes_of).collect())?;
+        let mut rest = &batch[..];
+        for call in calls {
+            let (answer, others) = rest.split_at(bytes_of(call).len());
+            answered(call, answer)?;
+            rest = others;
+        }
+        Ok(())
+    }
+}
+
+/// The process is ended, since one that breaks the form need not end with its input.
+impl Drop for Served {
+    fn drop(&mut self) {
+        // nothing is left to be told, and a process that failed has shown it by not answering
+        let _ = self.process.kill();
+        let _ = self.process.wait();
+    }
+}
+
+fn word(number: u64) -> [u8; WORD_BYTES] {
+    number.to_le_bytes()
+}
+
+/// What a call lends. Only one of the two is not empty.
+fn lent_by(call: &Call) -> Vec<u8> {
+    let book = call.book.iter().flat_map(|number| number.to_le_bytes());
+    book.chain(call.sheet.iter().copied()).collect()
+}
+
+fn bytes_of(call: &Call) -> Vec<u8> {
+    let mut lent = lent_by(call);
+    let mut words = vec![call.function as u64];
+    words.extend(call.arguments);
+    words.extend([call.length as u64, lent.len() as u64]);
+    words.extend(call.places);
+    let mut bytes: Vec<u8> = words.into_iter().flat_map(word).collect();
+    bytes.append(&mut lent);
+    bytes.resize(bytes.len().next_multiple_of(WORD_BYTES), 0);
+    bytes
+}
+
+/// Takes the answer over. All else must have come back as it was sent.
+fn answered(call: &mut Call, answer: &[u8]) -> io::Result<()> {
+    let sent = bytes_of(call);
+    let (words, lent) = answer.split_at(WORDS * WORD_BYTES);
+    let words: Vec<u64> = words
+        .chunks_exact(WORD_BYTES)
+        .map(|bytes| u64::from_le_bytes(bytes.try_into().expect("eight bytes")))
+        .collect();
+    call.number = words[0];
+    call.places.copy_from_slice(&words[PLACES..]);
+    let book_bytes = 4 * call.book.len();
+    for (number, bytes) in call.book.iter_mut().zip(lent.chunks_exact(4)) {
+        *number = u32::from_le_bytes(bytes.try_into().expect("four bytes"));
+    }
+    let sheet_end = book_bytes + call.sheet.len();
+    call.sheet.copy_from_slice(&lent[book_bytes..sheet_end]);
+    let between = WORD_BYTES..PLACES * WORD_BYTES;
+    let after = WORDS * WORD_BYTES + sheet_end..;
+    if answer[between.clone()] != sent[between] || answer[after.clone()] != sent[after] {
+        return Err(io::Error::other(format!(
+            "written beside the places: {call}"
+        )));
+    }
+    Ok(())
+}
+
+#[cfg(test)]
+mod tests {
+    use super::*;
+
+    fn call() -> Call {
+        Call::state_with_book([1, 2, 3], 4, &[5, 6, 7], 2)
+    }
+
+    /// An answer is taken over, and is nothing else than the call was where nothing was written.
+    #[test]
+    fn answers() {
+        let mut made = call();
+        made.number = 0;
+        made.places = [1, 2, 3, 4, 5];
+        made.book[2] = 8;
+        let mut answer = bytes_of(&made);
+        answer[..WORD_BYTES].copy_from_slice(&word(0));
+        let mut taken = call();
+        answered(&mut taken, &answer).expect("an answer");
+        assert_eq!(taken, made);
+    }
+
+    /// One that reads nothing and writes nothing, one that ends at once, and one that sends the number of
+    /// the batch's bytes back before it.
+    #[test]
+    fn processes_that_do_not_answer() {
+        for command in [&["sleep", "60"][..], &["true"], &["cat"]] {
+            let command: Vec<String> = command.iter().map(|word| word.to_string()).collect();
+            let mut served = Served::start(&command).expect("a process");
+            served.patience = Duration::from_millis(100);
+            assert!(served.make(&mut [call()]).is_err(), "{command:?}");
+        }
+    }
+
+    /// An argument, the length, and what fills the last word up.
+    #[test]
+    fn written_beside_the_places() {
+        for word in [1, 5, WORDS + 1] {
+            let mut answer = bytes_of(&call());
+            answer[word * WORD_BYTES + 7] ^= 1;
+            assert!(answered(&mut call(), &answer).is_err());
+        }
+    }
+}

@@ -1,0 +1,42 @@
+/* The header in use: a state, the same with a book, a refusal, the heat capacity, a sheet and its lines, and a faulty sheet. */
+#include "woolyard.h"
+#include <inttypes.h>
+#include <stdio.h>
+
+static void print_sheet(const char *text, size_t length)
+{
+    const uint8_t *sheet = (const uint8_t *)text;
+    uint64_t reading[3], state[3];
+    if (woolyard_sheet(sheet, length, reading) == WOOLYARD_SHEET_MALFORMED)
+        printf("sheet: byte %" PRIu64 " begins the faulty line \"%.*s\"\n", reading[1], (int)reading[2], text + reading[1]);
+    else
+        printf("sheet: %" PRIu64 " state lines\n", reading[0]);
+    for (uint64_t k = 0; woolyard_sheet_line(sheet, length, k, state) == WOOLYARD_ANSWERED; k++)
+        printf("  fluid %" PRIu64 ", %" PRIu64 " mK, %" PRIu64 " Pa\n", state[0], state[1], state[2]);
+}
+
+int main(void)
+{
+    uint64_t figures[5];
+    uint64_t number = woolyard_state(WOOLYARD_OXYGEN, 120000, 500000, figures);
+    printf("oxygen at 120000 mK and 500000 Pa: reply %" PRIu64 ", %s\n", number,
+           figures[WOOLYARD_KIND] == WOOLYARD_KIND_SPLIT ? "SPLIT" : "ONE");
+    printf("  gas root %" PRIu64 ", %" PRIu64 " g/m3\n", figures[WOOLYARD_GAS_ROOT], figures[WOOLYARD_GAS_DENSITY]);
+    printf("  dense root %" PRIu64 ", %" PRIu64 " g/m3\n", figures[WOOLYARD_DENSE_ROOT], figures[WOOLYARD_DENSE_DENSITY]);
+
+    uint32_t book[WOOLYARD_BOOK_LENGTH] = { 0 };
+    number = woolyard_state_with_book(WOOLYARD_OXYGEN, 120000, 500000, 5, book, WOOLYARD_BOOK_LENGTH, figures);
+    printf("with a book: reply %" PRIu64 ", and slot 5 holds %" PRIu32 "\n", number, book[5]);
+
+    number = woolyard_state(WOOLYARD_OXYGEN, 55999, 500000, figures);
+    printf("oxygen at 55999 mK: reply %" PRIu64 "\n", number);
+
+    double heat = 0;
+    if (woolyard_heat(300, &heat) == WOOLYARD_ANSWERED)
+        printf("hydrogen at 300 K: %.6f kJ/(kg K)\n", heat);
+
+    static const char good[] = "1\n300000 1000000\n2\n120000 500000\n55999 500000\n", faulty[] = "0\n1\n120000\n";
+    print_sheet(good, sizeof good - 1);
+    print_sheet(faulty, sizeof faulty - 1);
+    return 0;
+}

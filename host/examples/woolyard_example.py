@@ -1,0 +1,57 @@
+"""The header in use from Python: what woolyard_example.c does, with a shared object made of the archive.
+
+    python3 woolyard_example.py PATH-OF-libwoolyard.so
+"""
+
+import ctypes
+import sys
+from ctypes import byref, c_double, c_size_t, c_uint32, c_uint64
+
+ANSWERED, SHEET_MALFORMED = 0, 6
+OXYGEN, KIND_SPLIT, BOOK_LENGTH = 1, 2, 64
+
+woolyard = ctypes.CDLL(sys.argv[1])
+Figures, Three, Book = c_uint64 * 5, c_uint64 * 3, c_uint32 * BOOK_LENGTH
+woolyard.woolyard_state.argtypes = [c_uint64, c_uint64, c_uint64, Figures]
+woolyard.woolyard_state_with_book.argtypes = [c_uint64, c_uint64, c_uint64, c_uint64, Book, c_size_t, Figures]
+woolyard.woolyard_heat.argtypes = [c_double, ctypes.POINTER(c_double)]
+woolyard.woolyard_sheet.argtypes = [ctypes.c_char_p, c_size_t, Three]
+woolyard.woolyard_sheet_line.argtypes = [ctypes.c_char_p, c_size_t, c_uint64, Three]
+for name in ("state", "state_with_book", "heat", "sheet", "sheet_line"):
+    getattr(woolyard, f"woolyard_{name}").restype = c_uint64
+
+
+def print_sheet(sheet):
+    reading, state = Three(), Three()
+    number = woolyard.woolyard_sheet(sheet, len(sheet), reading)
+    count, place, length = reading
+    if number == SHEET_MALFORMED:
+        print(f'sheet: byte {place} begins the faulty line "{sheet[place : place + length].decode()}"')
+    else:
+        print(f"sheet: {count} state lines")
+    k = 0
+    while woolyard.woolyard_sheet_line(sheet, len(sheet), k, state) == ANSWERED:
+        print("  fluid {}, {} mK, {} Pa".format(*state))
+        k += 1
+
+
+figures = Figures()
+number = woolyard.woolyard_state(OXYGEN, 120000, 500000, figures)
+kind, gas_root, dense_root, gas_density, dense_density = figures
+print(f"oxygen at 120000 mK and 500000 Pa: reply {number}, {'SPLIT' if kind == KIND_SPLIT else 'ONE'}")
+print(f"  gas root {gas_root}, {gas_density} g/m3")
+print(f"  dense root {dense_root}, {dense_density} g/m3")
+
+book = Book()
+number = woolyard.woolyard_state_with_book(OXYGEN, 120000, 500000, 5, book, BOOK_LENGTH, figures)
+print(f"with a book: reply {number}, and slot 5 holds {book[5]}")
+
+number = woolyard.woolyard_state(OXYGEN, 55999, 500000, figures)
+print(f"oxygen at 55999 mK: reply {number}")
+
+heat = c_double()
+if woolyard.woolyard_heat(300, byref(heat)) == ANSWERED:
+    print(f"hydrogen at 300 K: {heat.value:.6f} kJ/(kg K)")
+
+print_sheet(b"1\n300000 1000000\n2\n120000 500000\n55999 500000\n")
+print_sheet(b"0\n1\n120000\n")

@@ -1,0 +1,50 @@
+//! The wrappers in use: what host/examples/woolyard_example.c does, in Rust.
+
+use woolyard::{FaultySheet, Fluid, Kind, Refusal};
+
+fn print_sheet(sheet: &[u8]) {
+    match woolyard::sheet(sheet) {
+        Ok(count) => println!("sheet: {count} state lines"),
+        Err(FaultySheet::Malformed { place, line }) => {
+            let line = line.escape_ascii();
+            println!("sheet: byte {place} begins the faulty line \"{line}\"");
+        }
+        Err(FaultySheet::TooLong) => println!("sheet: too long"),
+    }
+    let lines = (0..).map_while(|k| woolyard::sheet_line(sheet, k).ok());
+    for line in lines {
+        let [fluid, millikelvin, pascals] = [line.fluid.number(), line.millikelvin, line.pascals];
+        println!("  fluid {fluid}, {millikelvin} mK, {pascals} Pa");
+    }
+}
+
+fn main() -> Result<(), Refusal> {
+    let answer = woolyard::state(Fluid::Oxygen, 120_000, 500_000)?;
+    let kind = match answer.kind {
+        Kind::One => "ONE",
+        Kind::Split => "SPLIT",
+    };
+    println!("oxygen at 120000 mK and 500000 Pa: reply 0, {kind}");
+    println!(
+        "  gas root {}, {} g/m3",
+        answer.gas_root, answer.gas_density
+    );
+    println!(
+        "  dense root {}, {} g/m3",
+        answer.dense_root, answer.dense_density
+    );
+
+    let mut book = [0; woolyard::BOOK_LENGTH];
+    woolyard::state_with_book(Fluid::Oxygen, 120_000, 500_000, 5, &mut book)?;
+    println!("with a book: reply 0, and slot 5 holds {}", book[5]);
+
+    if let Err(refusal) = woolyard::state(Fluid::Oxygen, 55_999, 500_000) {
+        println!("oxygen at 55999 mK: reply {}", refusal.number());
+    }
+
+    println!("hydrogen at 300 K: {:.6} kJ/(kg K)", woolyard::heat(300.0)?);
+
+    print_sheet(b"1\n300000 1000000\n2\n120000 500000\n55999 500000\n");
+    print_sheet(b"0\n1\n120000\n");
+    Ok(())
+}

@@ -1,0 +1,87 @@
+//! The five functions of include/woolyard.h, as they are: numbers in, the reply's number out, and the
+//! figures in the places that the caller lends. All that is unsafe stands here.
+//!
+//! The header asks that a pointer points to as many elements as its array or its length says, that it
+//! is not null, and that what is written through one lies apart from what the others point to. A Rust
+//! reference or slice is such a pointer, an empty slice's too, and one that is `&mut` lies apart from
+//! every other. No function keeps a pointer, so none outlives its call.
+//!
+//! Each is inlined, so that a call costs what one of the C function does.
+
+/// How many figures a state has.
+pub const FIGURES: usize = 5;
+
+mod foreign {
+    extern "C" {
+        pub fn woolyard_state(
+            fluid: u64,
+            millikelvin: u64,
+            pascals: u64,
+            figures: *mut [u64; super::FIGURES],
+        ) -> u64;
+        pub fn woolyard_state_with_book(
+            fluid: u64,
+            millikelvin: u64,
+            pascals: u64,
+            slot: u64,
+            book: *mut u32,
+            book_length: usize,
+            figures: *mut [u64; super::FIGURES],
+        ) -> u64;
+        pub fn woolyard_heat(kelvin: f64, heat: *mut f64) -> u64;
+        pub fn woolyard_sheet(sheet: *const u8, length: usize, reading: *mut [u64; 3]) -> u64;
+        pub fn woolyard_sheet_line(
+            sheet: *const u8,
+            length: usize,
+            k: u64,
+            state: *mut [u64; 3],
+        ) -> u64;
+    }
+}
+
+/// `woolyard_state`: kind, gas root, dense root, gas density and dense density.
+#[inline]
+pub fn state(fluid: u64, millikelvin: u64, pascals: u64, figures: &mut [u64; FIGURES]) -> u64 {
+    // SAFETY: `figures` is the five places that are written, and nothing else is lent.
+    unsafe { foreign::woolyard_state(fluid, millikelvin, pascals, figures) }
+}
+
+/// `woolyard_state_with_book`: the same, with a book of any length.
+#[inline]
+pub fn state_with_book(
+    fluid: u64,
+    millikelvin: u64,
+    pascals: u64,
+    slot: u64,
+    book: &mut [u32],
+    figures: &mut [u64; FIGURES],
+) -> u64 {
+    let length = book.len();
+    let book = book.as_mut_ptr();
+    // SAFETY: `book` has `length` places, `figures` five; both are `&mut`, so they lie apart.
+    unsafe {
+        foreign::woolyard_state_with_book(fluid, millikelvin, pascals, slot, book, length, figures)
+    }
+}
+
+/// `woolyard_heat`: any double at all; where it is refused, `heat` is left alone.
+#[inline]
+pub fn heat(kelvin: f64, heat: &mut f64) -> u64 {
+    // SAFETY: `heat` is the one place that is written, and nothing else is lent.
+    unsafe { foreign::woolyard_heat(kelvin, heat) }
+}
+
+/// `woolyard_sheet`: the number of state lines, the place and the length of the faulty line.
+#[inline]
+pub fn sheet(sheet: &[u8], reading: &mut [u64; 3]) -> u64 {
+    // SAFETY: `sheet` has the bytes that its length says and none is written; `reading` is the three
+    // places that are, and lies apart, since it is `&mut`.
+    unsafe { foreign::woolyard_sheet(sheet.as_ptr(), sheet.len(), reading) }
+}
+
+/// `woolyard_sheet_line`: fluid, temperature in millikelvin and pressure in pascals of state line k.
+#[inline]
+pub fn sheet_line(sheet: &[u8], k: u64, state: &mut [u64; 3]) -> u64 {
+    // SAFETY: as for `sheet`, with `state` for `reading`.
+    unsafe { foreign::woolyard_sheet_line(sheet.as_ptr(), sheet.len(), k, state) }
+}

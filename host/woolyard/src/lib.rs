@@ -1,0 +1,119 @@
+//! Woolyard: compressibility roots and densities of parahydrogen and oxygen, hydrogen's ideal heat
+//! capacity, and state sheets.
+//!
+//! Safe Rust over `libwoolyard.a`, whose functions are proved to answer what document 01 (rules and
+//! scope of the build) defines. Every function answers every input, and the caller checks nothing
+//! first. None keeps a reference, allocates, or has state of its own, so calls may run at the same
+//! time.
+//!
+//! ```
+//! use woolyard::{Fluid, Kind, Refusal};
+//!
+//! let answer = woolyard::state(Fluid::Oxygen, 120_000, 500_000)?;
+//! assert_eq!(answer.kind, Kind::Split);
+//! assert_eq!((answer.gas_root, answer.gas_density), (92_696, 17_300));
+//! assert_eq!((answer.dense_root, answer.dense_density), (1699, 943_884));
+//!
+//! let refused = woolyard::state(Fluid::Oxygen, 55_999, 500_000);
+//! assert_eq!(refused, Err(Refusal::TemperatureOutOfRange));
+//! # Ok::<(), Refusal>(())
+//! ```
+
+pub mod boundary;
+mod reply;
+#[cfg(test)]
+mod tests;
+
+use boundary::FIGURES;
+pub use reply::{Answer, FaultySheet, Fluid, Kind, Refusal, State};
+
+/// How many numbers a book has.
+pub const BOOK_LENGTH: usize = 64;
+
+/// How many bytes a sheet may have.
+pub const SHEET_MOST_BYTES: usize = 65_536;
+
+/// The reply to a state: its five figures, or the first of refusals 2 and 3 that applies.
+pub fn state(fluid: Fluid, millikelvin: u64, pascals: u64) -> Result<Answer, Refusal> {
+    let mut figures = [0; FIGURES];
+    let number = boundary::state(fluid.number(), millikelvin, pascals, &mut figures);
+    answer(number, figures)
+}
+
+/// The same with a book of starting points, 64 numbers of 32 bits, holding anything at all. An answered
+/// call writes the gas root into its slot and touches no other place; a refused call writes nothing to
+/// the book. What the book holds changes how long an answer takes, never what it is. The first of
+/// refusals 2, 3 and 4 that applies is given.
+pub fn state_with_book(
+    fluid: Fluid,
+    millikelvin: u64,
+    pascals: u64,
+    slot: u64,
+    book: &mut [u32],
+) -> Result<Answer, Refusal> {
+    let mut figures = [0; FIGURES];
+    let fluid = fluid.number();
+    let number = boundary::state_with_book(fluid, millikelvin, pascals, slot, book, &mut figures);
+    answer(number, figures)
+}
+
+/// Hydrogen's ideal heat capacity at a temperature in kelvin, any double at all: kJ/(kg K), equal bit
+/// for bit to Table 4 evaluated from A5 down, each operation rounded once. Below 14, above 1000, an
+/// infinity or a NaN it is refusal 5.
+pub fn heat(kelvin: f64) -> Result<f64, Refusal> {
+    let mut heat = 0.0;
+    Refusal::check(boundary::heat(kelvin, &mut heat))?;
+    Ok(heat)
+}
+
+/// Reads a whole sheet: the number of state lines, which is the sum of the two counts. The faulty line
+/// of a refused one is given back as a part of `sheet`.
+///
+/// ```
+/// use woolyard::FaultySheet;
+///
+/// assert_eq!(woolyard::sheet(b"0\n1\n120000 500000\n"), Ok(1));
+/// let faulty = FaultySheet::Malformed { place: 2, line: b"x" };
+/// assert_eq!(woolyard::sheet(b"0\nx\n"), Err(faulty));
+/// ```
+pub fn sheet(sheet: &[u8]) -> Result<u64, FaultySheet<'_>> {
+    let mut reading = [0; 3];
+    let number = boundary::sheet(sheet, &mut reading);
+    let [state_lines, place, length] = reading;
+    match Refusal::check(number) {
+        Ok(()) => Ok(state_lines),
+        Err(Refusal::SheetTooLong) => Err(FaultySheet::TooLong),
+        // both lie inside the sheet, so neither is cut off
+        Err(_) => Err(FaultySheet::Malformed {
+            place: place as usize,
+            line: &sheet[place as usize..][..length as usize],
+        }),
+    }
+}
+
+/// State line k of a sheet, counted from 0 through both sections: its fluid, temperature in millikelvin
+/// and pressure in pascals as written, in range or not. Refusal 7 comes before 6, and 6 before 16,
+/// which is given exactly when the sheet is good and k is not below the number of state lines.
+pub fn sheet_line(sheet: &[u8], k: u64) -> Result<State, Refusal> {
+    let mut state = [0; 3];
+    Refusal::check(boundary::sheet_line(sheet, k, &mut state))?;
+    let [fluid, millikelvin, pascals] = state;
+    Ok(State {
+        fluid: Fluid::try_from(fluid)?,
+        millikelvin,
+        pascals,
+    })
+}
+
+/// An answer of these figures, unless the number is a refusal's.
+fn answer(number: u64, figures: [u64; FIGURES]) -> Result<Answer, Refusal> {
+    Refusal::check(number)?;
+    let [kind, gas_root, dense_root, gas_density, dense_density] = figures;
+    Ok(Answer {
+        kind: if kind == 1 { Kind::One } else { Kind::Split },
+        gas_root,
+        dense_root,
+        gas_density,
+        dense_density,
+    })
+}

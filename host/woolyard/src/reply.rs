@@ -1,0 +1,151 @@
+//! What is asked and answered, in the words and numbers of include/woolyard.h.
+
+use std::error::Error;
+use std::fmt;
+
+/// The fluids.
+#[derive(Clone, Copy, Debug, PartialEq, Eq, Hash)]
+pub enum Fluid {
+    Parahydrogen = 0,
+    Oxygen = 1,
+}
+
+impl Fluid {
+    /// The number that stands for the fluid.
+    pub fn number(self) -> u64 {
+        self as u64
+    }
+}
+
+impl TryFrom<u64> for Fluid {
+    type Error = Refusal;
+
+    fn try_from(number: u64) -> Result<Fluid, Refusal> {
+        let mut fluids = [Fluid::Parahydrogen, Fluid::Oxygen].into_iter();
+        let fluid = fluids.find(|fluid| fluid.number() == number);
+        fluid.ok_or(Refusal::NoSuchFluid)
+    }
+}
+
+/// The kinds of an answered state. A refused state has none.
+#[derive(Clone, Copy, Debug, PartialEq, Eq, Hash)]
+pub enum Kind {
+    /// The gas root and the dense root are equal.
+    One,
+    /// They differ.
+    Split,
+}
+
+/// The figures of an answered state.
+#[derive(Clone, Copy, Debug, PartialEq, Eq, Hash)]
+pub struct Answer {
+    pub kind: Kind,
+    /// The largest crossing of the cubic, in hundred-thousandths.
+    pub gas_root: u64,
+    /// The smallest.
+    pub dense_root: u64,
+    /// Of the gas root, in grams per cubic metre, rounded down.
+    pub gas_density: u64,
+    /// Of the dense root.
+    pub dense_density: u64,
+}
+
+/// A state line as written, in range or not.
+#[derive(Clone, Copy, Debug, PartialEq, Eq, Hash)]
+pub struct State {
+    pub fluid: Fluid,
+    pub millikelvin: u64,
+    pub pascals: u64,
+}
+
+/// The refusals, each with the number of its reply.
+#[derive(Clone, Copy, Debug, PartialEq, Eq, Hash)]
+pub enum Refusal {
+    NoSuchFluid = 1,
+    TemperatureOutOfRange = 2,
+    PressureOutOfRange = 3,
+    NoSuchSlot = 4,
+    HeatOutOfRange = 5,
+    SheetMalformed = 6,
+    SheetTooLong = 7,
+    NoSuchLine = 16,
+}
+
+impl Refusal {
+    const ALL: [Refusal; 8] = [
+        Refusal::NoSuchFluid,
+        Refusal::TemperatureOutOfRange,
+        Refusal::PressureOutOfRange,
+        Refusal::NoSuchSlot,
+        Refusal::HeatOutOfRange,
+        Refusal::SheetMalformed,
+        Refusal::SheetTooLong,
+        Refusal::NoSuchLine,
+    ];
+
+    /// The number of the reply.
+    pub fn number(self) -> u64 {
+        self as u64
+    }
+
+    /// Nothing for the number 0, which is an answer; the refusal for any other.
+    pub(crate) fn check(number: u64) -> Result<(), Refusal> {
+        if number == 0 {
+            return Ok(());
+        }
+        let refusal = Refusal::ALL.into_iter().find(|all| all.number() == number);
+        Err(refusal.unwrap_or_else(|| panic!("{number} is the number of no reply")))
+    }
+}
+
+impl fmt::Display for Refusal {
+    fn fmt(&self, text: &mut fmt::Formatter<'_>) -> fmt::Result {
+        text.write_str(match self {
+            Refusal::NoSuchFluid => "fluid is neither 0 nor 1",
+            Refusal::TemperatureOutOfRange => "temperature out of range",
+            Refusal::PressureOutOfRange => "pressure out of range",
+            Refusal::NoSuchSlot => "book not of 64 numbers, or slot above 63",
+            Refusal::HeatOutOfRange => "heat-capacity temperature not a number in 14 to 1000 K",
+            Refusal::SheetMalformed => "sheet badly formed",
+            Refusal::SheetTooLong => "sheet longer than 65,536 bytes",
+            Refusal::NoSuchLine => "no state line of the number asked for",
+        })
+    }
+}
+
+impl Error for Refusal {}
+
+/// What comes back for a refused sheet.
+#[derive(Clone, Copy, Debug, PartialEq, Eq, Hash)]
+pub enum FaultySheet<'sheet> {
+    Malformed {
+        /// The first byte of the first line that can't stand there.
+        place: usize,
+        /// That line, the very bytes of the sheet, without byte 10; empty if it is missing.
+        line: &'sheet [u8],
+    },
+    TooLong,
+}
+
+impl FaultySheet<'_> {
+    pub fn refusal(&self) -> Refusal {
+        match self {
+            FaultySheet::Malformed { .. } => Refusal::SheetMalformed,
+            FaultySheet::TooLong => Refusal::SheetTooLong,
+        }
+    }
+}
+
+impl fmt::Display for FaultySheet<'_> {
+    fn fmt(&self, text: &mut fmt::Formatter<'_>) -> fmt::Result {
+        self.refusal().fmt(text)?;
+        match self {
+            FaultySheet::Malformed { place, line } => {
+                write!(text, " at byte {place}: \"{}\"", line.escape_ascii())
+            }
+            FaultySheet::TooLong => Ok(()),
+        }
+    }
+}
+
+impl Error for FaultySheet<'_> {}

@@ -1,0 +1,81 @@
+/* Woolyard: compressibility roots and densities of parahydrogen and oxygen, hydrogen's ideal heat capacity, and state sheets.
+ *
+ * Every function answers every input with a number: 0 for an answer, another for a refusal, named below. The caller checks nothing first.
+ * Each is proved to answer what document 01 (rules and scope of the build) defines, and to write nothing but what is said here.
+ *
+ * What a pointer must be, and nothing else is asked: it points to as many elements as its array or its length says, and what is written
+ * through one pointer lies apart from what the others point to. With length 0 it may be any pointer but a null one.
+ * No function keeps a pointer, allocates, or has state of its own, so calls on different memory may run at the same time.
+ *
+ * Link libwoolyard.a (x86-64 Linux), which `rt staticlib woolyard` writes. */
+#ifndef WOOLYARD_H
+#define WOOLYARD_H
+
+#include <stddef.h>
+#include <stdint.h>
+
+#ifdef __cplusplus
+extern "C" {
+#endif
+
+/* The numbers of the replies. */
+#define WOOLYARD_ANSWERED 0
+#define WOOLYARD_NO_SUCH_FLUID 1             /* fluid is neither 0 nor 1 */
+#define WOOLYARD_TEMPERATURE_OUT_OF_RANGE 2  /* hydrogen: 14,000 to 1,000,000 mK; oxygen: 56,000 to 1,000,000 mK; ends included */
+#define WOOLYARD_PRESSURE_OUT_OF_RANGE 3     /* 10,000 to 50,000,000 Pa, ends included */
+#define WOOLYARD_NO_SUCH_SLOT 4              /* book not of 64 numbers, or slot above 63 */
+#define WOOLYARD_HEAT_OUT_OF_RANGE 5         /* heat-capacity temperature not a number in 14 to 1000 K */
+#define WOOLYARD_SHEET_MALFORMED 6           /* sheet badly formed */
+#define WOOLYARD_SHEET_TOO_LONG 7            /* sheet longer than 65,536 bytes */
+#define WOOLYARD_NO_SUCH_LINE 16             /* no state line of the number asked for */
+
+/* The fluids. */
+#define WOOLYARD_PARAHYDROGEN 0
+#define WOOLYARD_OXYGEN 1
+
+/* The kinds of an answered state. A refused state has none. */
+#define WOOLYARD_KIND_NONE 0
+#define WOOLYARD_KIND_ONE 1    /* the gas root and the dense root are equal */
+#define WOOLYARD_KIND_SPLIT 2  /* they differ */
+
+/* Where the figures of a state lie. */
+#define WOOLYARD_KIND 0
+#define WOOLYARD_GAS_ROOT 1       /* the largest crossing of the cubic, in hundred-thousandths */
+#define WOOLYARD_DENSE_ROOT 2     /* the smallest */
+#define WOOLYARD_GAS_DENSITY 3    /* of each root, in grams per cubic metre, rounded down */
+#define WOOLYARD_DENSE_DENSITY 4
+
+/* How many numbers a book has, and how many bytes a sheet may have. */
+#define WOOLYARD_BOOK_LENGTH 64
+#define WOOLYARD_SHEET_MOST_BYTES 65536
+
+/* The reply to a state: its five figures, which are zeros where it is refused.
+ * Answers 0, 1, 2 or 3; the first of 1, 2, 3 that applies is given. */
+uint64_t woolyard_state(uint64_t fluid, uint64_t millikelvin, uint64_t pascals, uint64_t figures[5]);
+
+/* The same with a book of starting points, 64 numbers of 32 bits, holding anything at all. An answered call writes the gas root into its
+ * slot and touches no other place; a refused call writes nothing to the book. What the book holds changes how long an answer takes, never
+ * what it is. Answers 0, 1, 2, 3 or 4; the first of 1, 2, 3, 4 that applies is given. */
+uint64_t woolyard_state_with_book(uint64_t fluid, uint64_t millikelvin, uint64_t pascals, uint64_t slot, uint32_t *book, size_t book_length,
+                                  uint64_t figures[5]);
+
+/* Hydrogen's ideal heat capacity at a temperature in kelvin, any double at all: kJ/(kg K), equal bit for bit to Table 4 evaluated from A5
+ * down, each operation rounded once. Answers 0, or 5 and leaves *heat alone: below 14, above 1000, an infinity or a NaN. */
+uint64_t woolyard_heat(double kelvin, double *heat);
+
+/* Reads a whole sheet. Answers 0, 6 or 7; 7 comes before 6.
+ *   reading[0]  the number of state lines, the sum of the two counts; 0 for a refused sheet
+ *   reading[1]  6: the place, which is the first byte of the first line that can't stand there; otherwise 0
+ *   reading[2]  6: the length of the faulty line, which is sheet[place] and on, without byte 10; 0 if the line is missing; otherwise 0 */
+uint64_t woolyard_sheet(const uint8_t *sheet, size_t length, uint64_t reading[3]);
+
+/* State line k of a sheet, counted from 0 through both sections: its fluid, temperature in millikelvin and pressure in pascals as written,
+ * in range or not; zeros where refused. Answers 0, 6, 7 or 16: 7 comes before 6, and 6 before 16, which is given exactly when the sheet is
+ * good and k is not below the number of state lines. */
+uint64_t woolyard_sheet_line(const uint8_t *sheet, size_t length, uint64_t k, uint64_t state[3]);
+
+#ifdef __cplusplus
+}
+#endif
+
+#endif
