@@ -9,7 +9,7 @@ use Rattle.cubic.specs.Cubic.{N}
 use Rattle.cubic.specs.Sides.{plus, minus, rise, bend, PositiveFrom, Crosses, FallsFrom, Falling, FallsTo}
 use Rattle.cubic.proofs.Shape.{above-grid, plus-grows, minus-grows, downwards}
 use Rattle.cubic.proofs.Lines.{positive-from}
-use Rattle.cubic.proofs.Room.{Allows, flat, jump, gentle, steep}
+use Rattle.cubic.proofs.Room.{Allows, jump, gentle, steep}
 
 module _ (a b : ℕ) where
   -- above N + b g is positive for good

@@ -13,13 +13,13 @@ use crate::sides::rise;
 
 // A place from which g is positive for good, with what a step down from it asks: by how much g rises to
 // it, and what g has above 1 there.
-pub(crate) struct Place {
-    pub high: u64,
-    pub slope: u64,
-    pub room: u64,
+struct Place {
+    high: u64,
+    slope: u64,
+    room: u64,
 }
 
-pub(crate) fn place_at(a: u64, b: u64, high: u64) -> Place
+fn place_at(a: u64, b: u64, high: u64) -> Place
     requires { ⌜ Within a b × FallsFrom a b high ⌝ }
     ensures { λ r. ⌜ r .high ≡ high ⌝ }
     ensures { λ r. ⌜ Falling a b (r .high) (r .room) (r .slope) ⌝ }
@@ -31,7 +31,7 @@ pub(crate) fn place_at(a: u64, b: u64, high: u64) -> Place
 
 // Just above the guess where g can be seen to be positive from there on, else above N + b. From the bend
 // on a step that rises rises on, so a rise to a positive value shows it.
-pub(crate) fn first_place(a: u64, b: u64) -> Place
+fn first_place(a: u64, b: u64) -> Place
     requires { ⌜ Within a b ⌝ }
     ensures { λ r. ⌜ Falling a b (r .high) (r .room) (r .slope) ⌝ }
 {

@@ -20,9 +20,10 @@ pub(crate) fn gas_side(b: u64, start: u64) -> u64
     start
 }
 
-// Near the gas root and hardly ever below it. With w = N + b - z the root has w z (z + b) = N a (z - b),
-// which is N N a over (N + b) (N + 2 b) in first order, and in second order as much over a (N - 3 b) less.
-// Where that takes away more than half, or at a b from the bend on, the order says little: N + b.
+// Near the gas root and hardly ever below it. The root z lies below N + b by w, with w z (z + b) equal to
+// N a (z - b). So w is about N N a over (N + b) (N + 2 b), and in the next order N N a over that divisor
+// less a (N - 3 b). Where this takes away more than half of the divisor, and from the bend on for b, it
+// says little, and N + b is as good.
 pub(crate) fn nearer(a: u64, b: u64) -> u64
     requires { ⌜ Within a b ⌝ }
     ensures { λ r. ⌜ GasSide b r ⌝ }

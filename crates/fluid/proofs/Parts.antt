@@ -1,6 +1,6 @@
 -- The parts of a density: over half of the gas constant, the product above the bar fits in 64 bits, and what is left below the bar is not 0.
 -- Assumes nothing.
-use mathlib.Core.Path.{_≡_, sym, ap, _∙_}
+use mathlib.Core.Path.{_≡_}
 use Prim.Native.Nat.{ℕ, _*_, _/_, _≤_, _<_}
 use native.Mathlib.Nat.{mul-le-mul, mul-pos, mul-comm, div-div-eq-div-mul}
 use native.Mathlib.Omega.{arith}

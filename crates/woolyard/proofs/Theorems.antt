@@ -1,16 +1,14 @@
 -- What is proved of the boundary, beside its contracts: each fixes the number and every value that its caller lent, and nothing that a book holds
 -- changes either. Assumes nothing.
-use mathlib.Core.Path.{_≡_, refl, sym, ap, _∙_}
+use mathlib.Core.Path.{_≡_, sym, ap, _∙_}
 use mathlib.Core.List.{List, _∷_, []}
 use Prim.Native.Nat.{ℕ}
 use lib.Ieee.{Float}
 use lib.ListN.{length}
 use Rattle.state.specs.declared.replies.Reply.{Reply}
-use Rattle.state.specs.declared.replies.Figures.{Figures}
-use Rattle.state.specs.Figures.{figuresOf, refusedWith}
+use Rattle.state.specs.Figures.{figuresOf}
 use Rattle.state.specs.Book.{Placed}
 use Rattle.state.proofs.Theorems as state
-use Rattle.heat.specs.declared.replies.HeatCapacity.{HeatCapacity}
 use Rattle.heat.specs.Replies.{numberOf}
 use Rattle.heat.proofs.Theorems as heat
 use Rattle.sheets.specs.declared.replies.Reading.{Reading}
@@ -22,11 +20,14 @@ use Rattle.woolyard.specs.States.{fiveOf, Laid, StateAnswers, BookAnswer
 use Rattle.woolyard.specs.Heats.{heatAfter, HeatAnswers}
 use Rattle.woolyard.specs.Sheets.{readingOf, SheetAnswers, stateOf, LineAnswers}
 
+-- One law for the five calls: what two replies that are equal tell is equal.
+told-alike : {Told Laid : Type 0} (number-of : Told → ℕ) (laid-of : Told → Laid) {reply other : Told} {number number′ : ℕ} {laid laid′ : Laid} → reply ≡ other → number ≡ number-of reply → number′ ≡ number-of other → laid ≡ laid-of reply → laid′ ≡ laid-of other → (number ≡ number′) × (laid ≡ laid′)
+told-alike number-of laid-of same is-number is-number′ is-laid is-laid′ =
+    (is-number ∙ ap number-of same ∙ sym is-number′, is-laid ∙ ap laid-of same ∙ sym is-laid′)
+
 same-laid : {reply other : Reply} {number number′ : ℕ} {figures figures′ : List ℕ} → reply ≡ other → Laid reply number figures → Laid other number′ figures′ → (number ≡ number′) × (figures ≡ figures′)
-same-laid same p q = (
-  p .is-number ∙ ap (λ (r : Reply). figuresOf r .number) same ∙ sym (q .is-number),
-  p .is-figures ∙ ap (λ (r : Reply). fiveOf (figuresOf r)) same ∙ sym (q .is-figures),
-)
+same-laid same p q =
+    told-alike (λ (r : Reply). figuresOf r .number) (λ (r : Reply). fiveOf (figuresOf r)) same (p .is-number) (q .is-number) (p .is-figures) (q .is-figures)
 
 -- ---- states
 module _ (fluid millikelvin pascals : ℕ) where
@@ -62,23 +63,17 @@ refused-changes-no-book p refused =
 -- ---- the heat capacity
 pub heat-determined : (kelvin before : Float) (number number′ : ℕ) (after after′ : Float) → HeatAnswers kelvin before number after → HeatAnswers kelvin before number′ after′ → (number ≡ number′) × (after ≡ after′)
 heat-determined kelvin before number number′ after after′ p q =
-    let same = heat.reply-determined kelvin (p .reply) (q .reply) (p .answers) (q .answers) in (
-      p .is-number ∙ ap numberOf same ∙ sym (q .is-number),
-      p .leaves ∙ ap (heatAfter before) same ∙ sym (q .leaves),
-    )
+    told-alike numberOf (heatAfter before)
+    (heat.reply-determined kelvin (p .reply) (q .reply) (p .answers) (q .answers)) (p .is-number) (q .is-number) (p .leaves) (q .leaves)
 
 -- ---- sheets
 module _ (bytes : List ℕ) where
   pub sheet-determined : (number number′ : ℕ) (reading reading′ : List ℕ) → SheetAnswers bytes number reading → SheetAnswers bytes number′ reading′ → (number ≡ number′) × (reading ≡ reading′)
   sheet-determined number number′ reading reading′ p q =
-      let same = sheets.reading-determined bytes (p .reply) (q .reply) (p .reads-as) (q .reads-as) in (
-        p .is-number ∙ ap (λ (r : Reading). sheetFigures r .number) same ∙ sym (q .is-number),
-        p .is-reading ∙ ap (λ (r : Reading). readingOf (sheetFigures r) (length (shown bytes r))) same ∙ sym (q .is-reading),
-      )
+      told-alike (λ (r : Reading). sheetFigures r .number) (λ (r : Reading). readingOf (sheetFigures r) (length (shown bytes r)))
+      (sheets.reading-determined bytes (p .reply) (q .reply) (p .reads-as) (q .reads-as)) (p .is-number) (q .is-number) (p .is-reading) (q .is-reading)
 
   pub sheet-line-determined : (k number number′ : ℕ) (state state′ : List ℕ) → LineAnswers bytes k number state → LineAnswers bytes k number′ state′ → (number ≡ number′) × (state ≡ state′)
   sheet-line-determined k number number′ state state′ p q =
-      let same = sheets.line-determined bytes k (p .reply) (q .reply) (p .reads-as) (q .reads-as) in (
-        p .is-number ∙ ap (λ (r : LineReading). lineFigures r .number) same ∙ sym (q .is-number),
-        p .is-state ∙ ap (λ (r : LineReading). stateOf (lineFigures r)) same ∙ sym (q .is-state),
-      )
+      told-alike (λ (r : LineReading). lineFigures r .number) (λ (r : LineReading). stateOf (lineFigures r))
+      (sheets.line-determined bytes k (p .reply) (q .reply) (p .reads-as) (q .reads-as)) (p .is-number) (q .is-number) (p .is-state) (q .is-state)

@@ -10,6 +10,7 @@ use crate::layout::faulty_line_length;
 use crate::layout::lay_figures;
 use heat::HeatCapacity;
 
+// The reply to a state: the array gets its kind, its two roots and their densities.
 #[no_mangle]
 pub extern "C" fn woolyard_state(
     fluid: u64,
@@ -23,6 +24,7 @@ pub extern "C" fn woolyard_state(
     lay_figures(reply, figures)
 }
 
+// The same with a book of starting points, which gets the gas root in its slot and nothing else.
 #[no_mangle]
 pub extern "C" fn woolyard_state_with_book(
     fluid: u64,
@@ -38,7 +40,7 @@ pub extern "C" fn woolyard_state_with_book(
     lay_figures(reply, figures)
 }
 
-// The double of a refused temperature is left as it was.
+// Hydrogen's ideal heat capacity. A refused temperature leaves the caller's double as it was.
 #[no_mangle]
 pub extern "C" fn woolyard_heat(kelvin: f64, heat: &mut f64) -> u64
     ensures { λ r. ⌜ HeatAnswers kelvin (now (heat .entry)) r (now (heat .exit)) ⌝ }
@@ -54,6 +56,8 @@ pub extern "C" fn woolyard_heat(kelvin: f64, heat: &mut f64) -> u64
     }
 }
 
+// A whole sheet: the array gets the number of its state lines, or the place and the length of its faulty
+// line.
 #[no_mangle]
 pub extern "C" fn woolyard_sheet(sheet: &[u8], reading: &mut [u64; 3]) -> u64
     ensures { λ r. ⌜ SheetAnswers (now (sheet .entry)) r (now (reading .exit)) ⌝ }
@@ -65,6 +69,7 @@ pub extern "C" fn woolyard_sheet(sheet: &[u8], reading: &mut [u64; 3]) -> u64
     told.number
 }
 
+// State line k of a sheet: the array gets its fluid, temperature and pressure.
 #[no_mangle]
 pub extern "C" fn woolyard_sheet_line(sheet: &[u8], k: u64, state: &mut [u64; 3]) -> u64
     ensures { λ r. ⌜ LineAnswers (now (sheet .entry)) k r (now (state .exit)) ⌝ }

@@ -1,5 +1,4 @@
 -- `woolyard::woolyard_heat` meets its contract: the double is written where the answer has one. Assumes nothing.
-use mathlib.Core.Path.{refl}
 use borrow.Author.Needs.{needs}
 use Rattle.heat.specs.declared.replies.HeatCapacity.the-variants.{KilojoulesPerKilogramKelvin, OutOfRange}
 use Rattle.woolyard.proofs.Laying.{heat-laid}

@@ -7,7 +7,6 @@ use Rattle.fluid.specs.declared.choice.Figures.{Figures}
 use Rattle.fluid.specs.Densities.{density}
 use Rattle.fluid.specs.Promise.{Weighable}
 use Rattle.fluid.proofs.Parts.{largestFactor, factor-fits, parts-fit, left, one-rounding}
-use borrow.Author.Needs.{needs}
 use Rattle.fluid.proofs.densities.density_of.Statement.{statement}
 use Rattle.fluid.proofs.densities.density_of.Tie as tie
 
