@@ -7,8 +7,8 @@ ghost use Rattle.fluid.specs.Inside.{largestSquare, FirstGuess, Guess};
 // The n at which the first guess goes over from one straight line to another.
 const MIDDLE: u64 = 364_000_000;
 
-// Two lines along the root's curve, so close for every n that occurs, 56,910,000 to 2,318,410,000, that two
-// steps nearly always lead to the root. Other lines would take other steps and change nothing.
+// Two lines along the root's curve, so close that of all n that occur, 56,910,000 to 2,318,410,000, two steps
+// lead to the root for 94 in 100. Other lines would take other steps and change nothing.
 fn first_guess(n: u64) -> u64
     requires { ⌜ n ≤ largestSquare ⌝ }
     ensures { λ r. ⌜ FirstGuess r ⌝ }
@@ -28,7 +28,7 @@ fn step(n: u64, guess: u64) -> u64
 }
 
 // The largest whole number whose square is at most n: the first guess, after a step, whose square is not
-// above n. Two steps are taken before the first test, so that the test nearly always comes out the same.
+// above n. Two steps are taken before the first test, so that the test mostly comes out the same.
 pub(crate) fn square_root(n: u64) -> u64
     requires { ⌜ n ≤ largestSquare ⌝ }
     ensures { λ r. ⌜ SquareRoot n r ⌝ }
