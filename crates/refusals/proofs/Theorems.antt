@@ -1,0 +1,64 @@
+-- What a call tells is fixed where each refusal is told in one way and an answer is one; and every list of checks that can each be decided
+-- gives a first that applies or none. Assumes nothing.
+use mathlib.Core.Path.{_≡_, refl, sym, ap, subst, _∙_}
+use mathlib.Core.Logic.{_⊎_, inl, inr}
+use mathlib.Core.List.{List, [], _∷_}
+use mathlib.Core.Bool.{cond}
+use Prim.Native.Nat.{ℕ}
+use lib.Dec.{eqb}
+use Rattle.refusals.specs.declared.Refusal.{Refusal}
+use Rattle.refusals.specs.declared.Refusal.the-variants.{NoSuchFluid, TemperatureOutOfRange, PressureOutOfRange, NoSuchSlot}
+use Rattle.refusals.specs.Numbers.{numberOf}
+use Rattle.refusals.specs.Checks.{Check, NoneOf, FirstOf, Tells, refuses, answers}
+
+pub none-or-first : (checks : List Check) (refusal : ℕ) → NoneOf checks → FirstOf checks refusal → ⊥
+none-or-first [] refusal none first = first
+none-or-first (check ∷ checks) refusal none (inl here) = none .0 (here .0)
+none-or-first (check ∷ checks) refusal none (inr later) = none-or-first checks refusal (none .1) (later .1)
+
+pub first-once : (checks : List Check) (refusal other : ℕ) → FirstOf checks refusal → FirstOf checks other → refusal ≡ other
+first-once [] refusal other first first′ = absurd first
+first-once (check ∷ checks) refusal other (inl here) (inl here′) = here .1 ∙ sym (here′ .1)
+first-once (check ∷ checks) refusal other (inl here) (inr later) = absurd (later .0 (here .0))
+first-once (check ∷ checks) refusal other (inr later) (inl here) = absurd (later .0 (here .0))
+first-once (check ∷ checks) refusal other (inr later) (inr later′) = first-once checks refusal other (later .1) (later′ .1)
+
+module _ {Figures : Type 0} (checks : List Check) {Refused : ℕ → Figures → Type 0} {Answers : Figures → Type 0} (refused-once : (refusal : ℕ) (figures other : Figures) → Refused refusal figures → Refused refusal other → figures ≡ other) (answered-once : (figures other : Figures) → Answers figures → Answers other → figures ≡ other) where
+  pub tells-once : (figures other : Figures) → Tells checks Refused Answers figures → Tells checks Refused Answers other → figures ≡ other
+  tells-once figures other (refuses refusal first told) (refuses refusal′ first′ told′) =
+      refused-once refusal figures other told (subst (λ (n : ℕ). Refused n other) (first-once checks refusal′ refusal first′ first) told′)
+  tells-once figures other (refuses refusal first told) (answers none told′) = absurd (none-or-first checks refusal none first)
+  tells-once figures other (answers none told) (refuses refusal first told′) = absurd (none-or-first checks refusal none first)
+  tells-once figures other (answers none told) (answers none′ told′) = answered-once figures other told told′
+
+-- each check can be decided
+abbrev pub Decided : List Check → Type 0
+Decided [] = Unit {0}
+Decided (check ∷ checks) = Dec (check .Applies) × Decided checks
+
+pub first-or-none : (checks : List Check) → Decided checks → ((refusal : ℕ) × FirstOf checks refusal) ⊎ NoneOf checks
+first-or-none [] decided = inr tt
+first-or-none (check ∷ checks) (yes applies, decided) = inl (check .number, inl (applies, refl))
+first-or-none (check ∷ checks) (no f, decided) = later (first-or-none checks decided)
+  where
+    later : ((refusal : ℕ) × FirstOf checks refusal) ⊎ NoneOf checks → ((refusal : ℕ) × FirstOf (check ∷ checks) refusal) ⊎ NoneOf (check ∷ checks)
+    later (inl first) = inl (first .0, inr (f, first .1))
+    later (inr none) = inr (f, none)
+
+-- the refusal that has a number, among some
+find : ℕ → List Refusal → Refusal
+find number [] = NoSuchFluid
+find number (refusal ∷ refusals) = cond (eqb (numberOf refusal) number) refusal (find number refusals)
+
+refusalOf : ℕ → Refusal
+refusalOf number = find number (NoSuchFluid ∷ TemperatureOutOfRange ∷ PressureOutOfRange ∷ NoSuchSlot ∷ [])
+
+refusal-of-number : (refusal : Refusal) → refusalOf (numberOf refusal) ≡ refusal
+unfolding refusalOf find
+refusal-of-number NoSuchFluid = refl
+refusal-of-number TemperatureOutOfRange = refl
+refusal-of-number PressureOutOfRange = refl
+refusal-of-number NoSuchSlot = refl
+
+pub number-determines-refusal : (refusal other : Refusal) → numberOf refusal ≡ numberOf other → refusal ≡ other
+number-determines-refusal refusal other same = sym (refusal-of-number refusal) ∙ ap refusalOf same ∙ refusal-of-number other

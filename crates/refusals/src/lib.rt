@@ -1,0 +1,24 @@
+// The refusals of a state (document 01, "Replies"), and the paper's number of each. Which of them a call
+// gives is said by its list of checks (specs/Checks.antt), in the paper's order.
+ghost use mathlib.Core.Path.{_≡_};
+ghost use Rattle.refusals.specs.Numbers.{numberOf};
+
+pub enum Refusal {
+    NoSuchFluid,
+    TemperatureOutOfRange,
+    PressureOutOfRange,
+    NoSuchSlot,
+}
+
+impl Refusal {
+    pub fn number(self) -> u64
+        ensures { λ r. ⌜ r ≡ numberOf self ⌝ }
+    {
+        match self {
+            Refusal::NoSuchFluid => 1,
+            Refusal::TemperatureOutOfRange => 2,
+            Refusal::PressureOutOfRange => 3,
+            Refusal::NoSuchSlot => 4,
+        }
+    }
+}
