@@ -53,7 +53,7 @@ module _ (millikelvin : ℕ) (from-coldest : coldest Hydrogen ≤ millikelvin) w
 
 hydrogen-spans : (millikelvin pascals : ℕ) → Accepted Hydrogen millikelvin pascals → let tc = criticalMillikelvin Hydrogen millikelvin in let pc = criticalPascals Hydrogen millikelvin in Spans 5600 62800000 tc pc (10000 * millikelvin / tc) (1000000 * pascals / pc)
 hydrogen-spans millikelvin pascals accepted =
-    let cold = accepted .temperature .from-coldest in
+    let cold = accepted .from-coldest in
     let tc = criticalMillikelvin Hydrogen millikelvin in
     let pc = criticalPascals Hydrogen millikelvin in
     let t-to : 10000 * millikelvin / tc ≤ 10000 * hottest / 24500 = quotient-grows {y = 10000 * hottest} (omega arith) (tc-from millikelvin cold) (omega arith) in

@@ -1,21 +1,25 @@
 -- What is proved of the definitions of `specs/`, beside what each call promises: the bounds of a and b over every accepted state, that a density's
 -- factor is the molar mass over the gas constant, and that each promise fixes its answer. Assumes nothing.
-use mathlib.Core.Path.{_≡_, refl, sym, ap, _∙_}
-use Prim.Native.Nat.{ℕ, zero, suc, _*_, _≤_, _<_}
+use mathlib.Core.Path.{_≡_, refl, sym, ap, ap₂, _∙_}
+use Prim.Native.Nat.{ℕ, _*_, _≤_, _<_}
 use native.Mathlib.Nat.{le-antisymm}
 use native.Mathlib.Omega.{arith}
 use Rattle.fluid.specs.declared.choice.Fluid.{Fluid}
 use Rattle.fluid.specs.declared.choice.Fluid.the-variants.{Hydrogen, Oxygen}
 use Rattle.fluid.specs.declared.choice.Numbered.{Numbered}
-use Rattle.fluid.specs.declared.choice.Numbered.the-variants.{Fluid as IsFluid, NoFluid}
+use Rattle.fluid.specs.declared.choice.Numbered.the-variants as Numbered
 use Rattle.fluid.specs.declared.coefficients.Reduced.{Reduced}
 use Rattle.fluid.specs.declared.coefficients.Reduction.{Reduction}
-use Rattle.fluid.specs.declared.coefficients.Reduction.the-variants.{To, TemperatureOutOfRange, PressureOutOfRange}
+use Rattle.fluid.specs.declared.coefficients.Reduction.the-variants as Reduction
 use Rattle.fluid.specs.declared.densities.Density.{Density}
 use Rattle.fluid.specs.declared.densities.Density.the-variants.{GramsPerCubicMetre, OutOfBounds}
-use Rattle.fluid.specs.Figures.{numberOf, molarMass, densityFactor, Accepted}
+use Rattle.fluid.specs.Figures.{molarMass, densityFactor, Accepted}
 use Rattle.fluid.specs.Reduced.{SquareRoot, Reduces}
-use Rattle.fluid.specs.Promise.{Numbers, Reached, ReducesTo, Weighs}
+use Rattle.fluid.specs.Checks.{fluidChecks, stateChecks}
+use Rattle.fluid.specs.Promise.{numbered, Numbers, Reached, reduction, Reaches, ReducesTo, Weighs}
+use Rattle.refusals.specs.Checks.{Outcome, with-value, with-number}
+use Rattle.refusals.proofs.Theorems.{gives-once, refusalOf, refusal-of-number}
+use Rattle.fluid.proofs.Fluids.{number-determines-fluid}
 use Rattle.fluid.proofs.Ranges.{Bounds, spanned, bounds}
 
 -- 8314, the gas constant, is twice 4157
@@ -27,43 +31,22 @@ pub some-temperature : {fluid : Fluid} {millikelvin pascals : ℕ} → Accepted 
 some-temperature {fluid = Hydrogen} accepted = omega arith
 some-temperature {fluid = Oxygen} accepted = omega arith
 
-module _ {fluid : Fluid} {millikelvin pascals : ℕ} {reduced : Reduced} (reached : Reached fluid millikelvin pascals reduced) where
+module _ {fluid : Fluid} {millikelvin pascals : ℕ} {reduced : Reduced} (accepted : Accepted fluid millikelvin pascals) (reduces : Reduces fluid millikelvin pascals reduced) where
   within : Bounds (reduced .t) (reduced .p) (reduced .s)
   within =
-      let r = reached .reduces in
-      rw (r .is-t, r .is-p) (bounds (spanned fluid millikelvin pascals (reached .accepted)) (rw (r .is-t) at (r .is-s)))
+      rw (reduces .is-t, reduces .is-p) (bounds (spanned fluid millikelvin pascals accepted) (rw (reduces .is-t) at (reduces .is-s)))
 
   pub a-at-most : reduced .a ≤ 11500000
-  a-at-most = omega (arith, within, reached .reduces)
+  a-at-most = omega (arith, within)
 
   pub b-at-least-one : 1 ≤ reduced .b
-  b-at-least-one = omega (arith, within, reached .reduces)
+  b-at-least-one = omega (arith, within)
 
   pub b-at-most : reduced .b ≤ 1000000
-  b-at-most = omega (arith, within, reached .reduces)
-
--- no two fluids have one number
-fluidOf : (number : ℕ) → Fluid
-fluidOf zero = Hydrogen
-fluidOf (suc n) = Oxygen
-
-fluid-of-number : (fluid : Fluid) → fluidOf (numberOf fluid) ≡ fluid
-unfolding fluidOf
-fluid-of-number Hydrogen = refl
-fluid-of-number Oxygen = refl
-
-pub number-determines-fluid : (f g : Fluid) → numberOf f ≡ numberOf g → f ≡ g
-number-determines-fluid f g same = sym (fluid-of-number f) ∙ ap fluidOf same ∙ fluid-of-number g
+  b-at-most = omega (arith, within)
 
 pub square-root-unique : {n r s : ℕ} → SquareRoot n r → SquareRoot n s → r ≡ s
 square-root-unique {r = r} {s} p q = le-antisymm (q .largest r (p .square)) (p .largest s (q .square))
-
--- two answers that keep what `of_number` promises are equal
-pub numbered-determined : (number : ℕ) (r s : Numbered) → Numbers number r → Numbers number s → r ≡ s
-numbered-determined number (IsFluid f) (IsFluid g) p q = ap IsFluid (number-determines-fluid f g (sym p ∙ q))
-numbered-determined number (IsFluid f) NoFluid p q = absurd (q f p)
-numbered-determined number NoFluid (IsFluid g) p q = absurd (p g q)
-numbered-determined number NoFluid NoFluid p q = refl
 
 made : (t p s a b : ℕ) → Reduced
 made t p s a b = record { t = t; p = p; s = s; a = a; b = b }
@@ -80,21 +63,46 @@ module _ (fluid : Fluid) (millikelvin pascals : ℕ) where
       let fields : made (r .t) (r .p) (r .s) (r .a) (r .b) ≡ made (s .t) (s .p) (s .s) (s .a) (s .b) = cc in
       fields
 
-  -- and so for `reduce`
-  pub reduction-determined : (r s : Reduction) → ReducesTo fluid millikelvin pascals r → ReducesTo fluid millikelvin pascals s → r ≡ s
-  reduction-determined (To r) (To s) p q = ap To (reduced-determined r s (p .reduces) (q .reduces))
-  reduction-determined (To r) TemperatureOutOfRange p q = absurd (q (p .accepted .temperature))
-  reduction-determined (To r) PressureOutOfRange p q = absurd (q .pressure (p .accepted .pressure))
-  reduction-determined TemperatureOutOfRange (To s) p q = absurd (p (q .accepted .temperature))
-  reduction-determined TemperatureOutOfRange TemperatureOutOfRange p q = refl
-  reduction-determined TemperatureOutOfRange PressureOutOfRange p q = absurd (p (q .temperature))
-  reduction-determined PressureOutOfRange (To s) p q = absurd (p .pressure (q .accepted .pressure))
-  reduction-determined PressureOutOfRange TemperatureOutOfRange p q = absurd (q (p .temperature))
-  reduction-determined PressureOutOfRange PressureOutOfRange p q = refl
-
-  -- and for `density_of`
+  -- two answers that keep what `density_of` promises are equal
   pub density-determined : (root : ℕ) (r s : Density) → Weighs fluid millikelvin pascals root r → Weighs fluid millikelvin pascals root s → r ≡ s
   density-determined root (GramsPerCubicMetre x) (GramsPerCubicMetre y) p q = ap GramsPerCubicMetre (p .is-density ∙ sym (q .is-density))
   density-determined root (GramsPerCubicMetre x) OutOfBounds p q = absurd (q (p .weighable))
   density-determined root OutOfBounds (GramsPerCubicMetre y) p q = absurd (p (q .weighable))
   density-determined root OutOfBounds OutOfBounds p q = refl
+
+-- and two that keep what `of_number` promises
+numberedOf : Outcome Fluid → Numbered
+numberedOf (with-value fluid) = Numbered.Fluid fluid
+numberedOf (with-number refusal) = Numbered.Refused (refusalOf refusal)
+
+numbered-back : (r : Numbered) → numberedOf (numbered r) ≡ r
+unfolding numberedOf
+numbered-back (Numbered.Fluid fluid) = refl
+numbered-back (Numbered.Refused refusal) = ap Numbered.Refused (refusal-of-number refusal)
+
+pub numbered-determined : (number : ℕ) (r s : Numbered) → Numbers number (numbered r) → Numbers number (numbered s) → r ≡ s
+numbered-determined number r s p q =
+    let same = gives-once (fluidChecks number) (λ f g p q. number-determines-fluid f g (sym p ∙ q)) (numbered r) (numbered s) p q in
+    sym (numbered-back r) ∙ ap numberedOf same ∙ numbered-back s
+
+-- and what `reduce` promises
+reductionOf : Outcome Reached → Reduction
+reductionOf (with-value reached) = Reduction.To (reached .fluid) (reached .reduced)
+reductionOf (with-number refusal) = Reduction.Refused (refusalOf refusal)
+
+reduction-back : (r : Reduction) → reductionOf (reduction r) ≡ r
+unfolding reductionOf
+reduction-back (Reduction.To fluid reduced) = refl
+reduction-back (Reduction.Refused refusal) = ap Reduction.Refused (refusal-of-number refusal)
+
+module _ (number millikelvin pascals : ℕ) where
+  reached-once : (r s : Reached) → Reaches number millikelvin pascals r → Reaches number millikelvin pascals s → r ≡ s
+  reached-once r s p q =
+      let same-fluid : r .fluid ≡ s .fluid = number-determines-fluid (r .fluid) (s .fluid) (sym (p .is-number) ∙ q .is-number) in
+      let same-reduced : r .reduced ≡ s .reduced = reduced-determined (s .fluid) millikelvin pascals (r .reduced) (s .reduced) (rw same-fluid at (p .reduces)) (q .reduces) in
+      ap₂ (λ (fluid : Fluid) (reduced : Reduced). record { fluid = fluid; reduced = reduced }) same-fluid same-reduced
+
+  pub reduction-determined : (r s : Reduction) → ReducesTo number millikelvin pascals (reduction r) → ReducesTo number millikelvin pascals (reduction s) → r ≡ s
+  reduction-determined r s p q =
+      let same = gives-once (stateChecks number millikelvin pascals) reached-once (reduction r) (reduction s) p q in
+      sym (reduction-back r) ∙ ap reductionOf same ∙ reduction-back s

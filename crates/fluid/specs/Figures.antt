@@ -46,14 +46,8 @@ lowest = 10000
 abbrev pub highest : ℕ
 highest = 50000000
 
-pub record TemperatureInRange (fluid : Fluid) (millikelvin : ℕ) : Type 0 where
+pub record Accepted (fluid : Fluid) (millikelvin pascals : ℕ) : Type 0 where
   pub from-coldest : coldest fluid ≤ millikelvin
   pub to-hottest : millikelvin ≤ hottest
-
-pub record PressureInRange (pascals : ℕ) : Type 0 where
   pub from-lowest : lowest ≤ pascals
   pub to-highest : pascals ≤ highest
-
-pub record Accepted (fluid : Fluid) (millikelvin pascals : ℕ) : Type 0 where
-  pub temperature : TemperatureInRange fluid millikelvin
-  pub pressure : PressureInRange pascals

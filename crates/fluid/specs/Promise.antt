@@ -1,35 +1,43 @@
--- What the public calls promise.
+-- What the public calls promise, of what their answers come back as.
 use mathlib.Core.Path.{_≡_}
 use Prim.Native.Nat.{ℕ, _≤_, _<_}
+use Rattle.refusals.specs.Checks.{Outcome, with-value, with-number, Gives}
+use Rattle.refusals.specs.Numbers.{numberOfRefusal}
 use Rattle.fluid.specs.declared.choice.Fluid.{Fluid}
 use Rattle.fluid.specs.declared.choice.Numbered.{Numbered}
-use Rattle.fluid.specs.declared.choice.Numbered.the-variants.{Fluid as IsFluid, NoFluid}
+use Rattle.fluid.specs.declared.choice.Numbered.the-variants as Numbered
 use Rattle.fluid.specs.declared.coefficients.Reduced.{Reduced}
 use Rattle.fluid.specs.declared.coefficients.Reduction.{Reduction}
-use Rattle.fluid.specs.declared.coefficients.Reduction.the-variants.{To, TemperatureOutOfRange, PressureOutOfRange}
+use Rattle.fluid.specs.declared.coefficients.Reduction.the-variants as Reduction
 use Rattle.fluid.specs.declared.densities.Density.{Density}
 use Rattle.fluid.specs.declared.densities.Density.the-variants.{GramsPerCubicMetre, OutOfBounds}
-use Rattle.fluid.specs.Figures.{numberOf, hottest, highest, TemperatureInRange, PressureInRange, Accepted}
+use Rattle.fluid.specs.Figures.{numberOf, hottest, highest, Accepted}
+use Rattle.fluid.specs.Checks.{fluidChecks, stateChecks}
 use Rattle.fluid.specs.Reduced.{Reduces}
 use Rattle.fluid.specs.Densities.{density}
 
-abbrev pub Numbers : (number : ℕ) → Numbered → Type 0
-Numbers number (IsFluid fluid) = number ≡ numberOf fluid
-Numbers number NoFluid = (fluid : Fluid) → number ≡ numberOf fluid → ⊥
+abbrev pub numbered : Numbered → Outcome Fluid
+numbered (Numbered.Fluid fluid) = with-value fluid
+numbered (Numbered.Refused refusal) = with-number (numberOfRefusal refusal)
 
-pub record Reached (fluid : Fluid) (millikelvin pascals : ℕ) (reduced : Reduced) : Type 0 where
-  pub accepted : Accepted fluid millikelvin pascals
-  pub reduces : Reduces fluid millikelvin pascals reduced
+abbrev pub Numbers : (number : ℕ) → Outcome Fluid → Type 0
+Numbers number = Gives (fluidChecks number) (λ fluid. number ≡ numberOf fluid)
 
--- the temperature is looked at before the pressure
-pub record WrongPressure (fluid : Fluid) (millikelvin pascals : ℕ) : Type 0 where
-  pub temperature : TemperatureInRange fluid millikelvin
-  pub pressure : PressureInRange pascals → ⊥
+-- the fluid of a state, and its t, p, s, a and b
+pub record Reached : Type 0 where
+  pub fluid : Fluid
+  pub reduced : Reduced
 
-abbrev pub ReducesTo : (fluid : Fluid) (millikelvin pascals : ℕ) → Reduction → Type 0
-ReducesTo fluid millikelvin pascals (To reduced) = Reached fluid millikelvin pascals reduced
-ReducesTo fluid millikelvin pascals TemperatureOutOfRange = TemperatureInRange fluid millikelvin → ⊥
-ReducesTo fluid millikelvin pascals PressureOutOfRange = WrongPressure fluid millikelvin pascals
+abbrev pub reduction : Reduction → Outcome Reached
+reduction (Reduction.To fluid reduced) = with-value (record { fluid = fluid; reduced = reduced })
+reduction (Reduction.Refused refusal) = with-number (numberOfRefusal refusal)
+
+pub record Reaches (number millikelvin pascals : ℕ) (reached : Reached) : Type 0 where
+  pub is-number : number ≡ numberOf (reached .fluid)
+  pub reduces : Reduces (reached .fluid) millikelvin pascals (reached .reduced)
+
+abbrev pub ReducesTo : (number millikelvin pascals : ℕ) → Outcome Reached → Type 0
+ReducesTo number millikelvin pascals = Gives (stateChecks number millikelvin pascals) (Reaches number millikelvin pascals)
 
 -- the largest root there is: N + b, for the largest b that the cubic takes
 abbrev pub largestRoot : ℕ

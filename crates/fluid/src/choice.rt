@@ -4,9 +4,10 @@ ghost use mathlib.Core.Path.{_≡_};
 ghost use Prim.Native.Nat.{_≤_};
 ghost use Rattle.fluid.specs.Figures.{hottest};
 ghost use Rattle.fluid.specs.Inside.{figuresOf};
-ghost use Rattle.fluid.specs.Promise.{Numbers};
+ghost use Rattle.fluid.specs.Promise.{numbered, Numbers};
 use crate::hydrogen::Hydrogen;
 use crate::oxygen::Oxygen;
+use refusals::Refusal;
 
 pub enum Fluid {
     Hydrogen,
@@ -15,7 +16,7 @@ pub enum Fluid {
 
 pub enum Numbered {
     Fluid(Fluid),
-    NoFluid,
+    Refused(Refusal),
 }
 
 // What a fluid brings to the cubic and to a density.
@@ -28,7 +29,7 @@ pub(crate) struct Figures {
 
 // The fluid that document 01 numbers so.
 pub fn of_number(number: u64) -> Numbered
-    ensures { λ r. ⌜ Numbers number r ⌝ }
+    ensures { λ r. ⌜ Numbers number (numbered r) ⌝ }
 {
     if number == 0 {
         return Numbered::Fluid(Fluid::Hydrogen);
@@ -36,7 +37,7 @@ pub fn of_number(number: u64) -> Numbered
     if number == 1 {
         return Numbered::Fluid(Fluid::Oxygen);
     }
-    Numbered::NoFluid
+    Numbered::Refused(Refusal::NoSuchFluid)
 }
 
 pub(crate) fn figures_at(fluid: Fluid, millikelvin: u64) -> Figures

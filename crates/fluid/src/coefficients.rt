@@ -1,8 +1,12 @@
 // From a state to the coefficients of the cubic (document 01, "From a state to the cubic").
-ghost use Rattle.fluid.specs.Promise.{ReducesTo};
+ghost use Rattle.fluid.specs.Figures.{numberOf};
+ghost use Rattle.fluid.specs.Promise.{reduction, ReducesTo};
 use crate::choice::Fluid;
+use crate::choice::Numbered;
 use crate::choice::figures_at;
+use crate::choice::of_number;
 use crate::root::square_root;
+use refusals::Refusal;
 
 // The ends that all fluids share.
 pub(crate) const HOTTEST_MILLIKELVIN: u64 = 1_000_000;
@@ -27,37 +31,49 @@ pub struct Reduced {
 }
 
 pub enum Reduction {
-    To(Reduced),
-    TemperatureOutOfRange,
-    PressureOutOfRange,
+    To { fluid: Fluid, reduced: Reduced },
+    Refused(Refusal),
 }
 
-// t, p, s, a and b of a state, or which of its two numbers is out of range, the temperature first.
-pub fn reduce(fluid: Fluid, millikelvin: u64, pascals: u64) -> Reduction
-    ensures { λ r. ⌜ ReducesTo fluid millikelvin pascals r ⌝ }
+// The temperature is looked at before the pressure.
+fn reduce_fluid(fluid: Fluid, millikelvin: u64, pascals: u64) -> Reduction
+    ensures { λ r. ⌜ ReducesTo (numberOf fluid) millikelvin pascals (reduction r) ⌝ }
 {
     if HOTTEST_MILLIKELVIN < millikelvin {
-        return Reduction::TemperatureOutOfRange; // too hot
+        return Reduction::Refused(Refusal::TemperatureOutOfRange); // too hot
     }
     let figures = figures_at(fluid, millikelvin);
     let coldest = figures.coldest_millikelvin;
     if millikelvin < coldest {
-        return Reduction::TemperatureOutOfRange; // too cold
+        return Reduction::Refused(Refusal::TemperatureOutOfRange); // too cold
     }
     if pascals < LOWEST_PASCALS {
-        return Reduction::PressureOutOfRange; // too low
+        return Reduction::Refused(Refusal::PressureOutOfRange); // too low
     }
     if HIGHEST_PASCALS < pascals {
-        return Reduction::PressureOutOfRange; // too high
+        return Reduction::Refused(Refusal::PressureOutOfRange); // too high
     }
     let t = 10_000 * millikelvin / figures.critical_millikelvin;
     let p = 1_000_000 * pascals / figures.critical_pascals;
     let s = square_root(10_000 * t);
-    Reduction::To(Reduced {
-        t,
-        p,
-        s,
-        a: FACTOR_OF_A * p / (t * t * s),
-        b: FACTOR_OF_B * p / (100 * t),
-    })
+    Reduction::To {
+        fluid,
+        reduced: Reduced {
+            t,
+            p,
+            s,
+            a: FACTOR_OF_A * p / (t * t * s),
+            b: FACTOR_OF_B * p / (100 * t),
+        },
+    }
+}
+
+// The fluid of a state and its t, p, s, a and b, or the first refusal that applies to it.
+pub fn reduce(number: u64, millikelvin: u64, pascals: u64) -> Reduction
+    ensures { λ r. ⌜ ReducesTo number millikelvin pascals (reduction r) ⌝ }
+{
+    match of_number(number) {
+        Numbered::Refused(refusal) => Reduction::Refused(refusal),
+        Numbered::Fluid(fluid) => reduce_fluid(fluid, millikelvin, pascals),
+    }
 }

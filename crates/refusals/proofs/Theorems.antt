@@ -8,8 +8,8 @@ use Prim.Native.Nat.{ℕ}
 use lib.Dec.{eqb}
 use Rattle.refusals.specs.declared.Refusal.{Refusal}
 use Rattle.refusals.specs.declared.Refusal.the-variants.{NoSuchFluid, TemperatureOutOfRange, PressureOutOfRange, NoSuchSlot}
-use Rattle.refusals.specs.Numbers.{numberOf}
-use Rattle.refusals.specs.Checks.{Check, NoneOf, FirstOf, Tells, refuses, answers}
+use Rattle.refusals.specs.Numbers.{numberOfRefusal}
+use Rattle.refusals.specs.Checks.{Check, NoneOf, FirstOf, Tells, refuses, answers, Outcome, with-value, with-number, Gives}
 
 pub none-or-first : (checks : List Check) (refusal : ℕ) → NoneOf checks → FirstOf checks refusal → ⊥
 none-or-first [] refusal none first = first
@@ -31,6 +31,12 @@ module _ {Figures : Type 0} (checks : List Check) {Refused : ℕ → Figures →
   tells-once figures other (answers none told) (refuses refusal first told′) = absurd (none-or-first checks refusal none first)
   tells-once figures other (answers none told) (answers none′ told′) = answered-once figures other told told′
 
+pub gives-once : {Value : Type 0} (checks : List Check) {Is : Value → Type 0} → ((given other : Value) → Is given → Is other → given ≡ other) → (outcome other : Outcome Value) → Gives checks Is outcome → Gives checks Is other → outcome ≡ other
+gives-once checks once (with-value given) (with-value given′) p q = ap with-value (once given given′ (p .1) (q .1))
+gives-once checks once (with-value given) (with-number refusal) p q = absurd (none-or-first checks refusal (p .0) q)
+gives-once checks once (with-number refusal) (with-value given) p q = absurd (none-or-first checks refusal (q .0) p)
+gives-once checks once (with-number refusal) (with-number refusal′) p q = ap with-number (first-once checks refusal refusal′ p q)
+
 -- each check can be decided
 abbrev pub Decided : List Check → Type 0
 Decided [] = Unit {0}
@@ -48,17 +54,14 @@ first-or-none (check ∷ checks) (no f, decided) = later (first-or-none checks d
 -- the refusal that has a number, among some
 find : ℕ → List Refusal → Refusal
 find number [] = NoSuchFluid
-find number (refusal ∷ refusals) = cond (eqb (numberOf refusal) number) refusal (find number refusals)
+find number (refusal ∷ refusals) = cond (eqb (numberOfRefusal refusal) number) refusal (find number refusals)
 
-refusalOf : ℕ → Refusal
+pub refusalOf : ℕ → Refusal
 refusalOf number = find number (NoSuchFluid ∷ TemperatureOutOfRange ∷ PressureOutOfRange ∷ NoSuchSlot ∷ [])
 
-refusal-of-number : (refusal : Refusal) → refusalOf (numberOf refusal) ≡ refusal
+pub refusal-of-number : (refusal : Refusal) → refusalOf (numberOfRefusal refusal) ≡ refusal
 unfolding refusalOf find
 refusal-of-number NoSuchFluid = refl
 refusal-of-number TemperatureOutOfRange = refl
 refusal-of-number PressureOutOfRange = refl
 refusal-of-number NoSuchSlot = refl
-
-pub number-determines-refusal : (refusal other : Refusal) → numberOf refusal ≡ numberOf other → refusal ≡ other
-number-determines-refusal refusal other same = sym (refusal-of-number refusal) ∙ ap refusalOf same ∙ refusal-of-number other

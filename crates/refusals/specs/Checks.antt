@@ -29,7 +29,11 @@ pub data Tells {Figures : Type 0} (checks : List Check) (Refused : (refusal : �
   refuses : (refusal : ℕ) → FirstOf checks refusal → Refused refusal figures → Tells checks Refused Answers figures
   answers : NoneOf checks → Answers figures → Tells checks Refused Answers figures
 
--- what comes back of a call that has no zeros to tell: a value, or a refusal's number alone
+-- what comes back of a call whose refusals bring a number and nothing else
 pub data Outcome (Value : Type 0) : Type 0 where
-  value : Value → Outcome Value
-  refusal : (number : ℕ) → Outcome Value
+  with-value : Value → Outcome Value
+  with-number : (refusal : ℕ) → Outcome Value
+
+abbrev pub Gives : {Value : Type 0} (checks : List Check) (Is : Value → Type 0) → Outcome Value → Type 0
+Gives checks Is (with-value given) = NoneOf checks × Is given
+Gives checks Is (with-number refusal) = FirstOf checks refusal

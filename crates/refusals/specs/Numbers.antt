@@ -3,8 +3,8 @@ use Prim.Native.Nat.{ℕ}
 use Rattle.refusals.specs.declared.Refusal.{Refusal}
 use Rattle.refusals.specs.declared.Refusal.the-variants.{NoSuchFluid, TemperatureOutOfRange, PressureOutOfRange, NoSuchSlot}
 
-abbrev pub numberOf : Refusal → ℕ
-numberOf NoSuchFluid = 1
-numberOf TemperatureOutOfRange = 2
-numberOf PressureOutOfRange = 3
-numberOf NoSuchSlot = 4
+abbrev pub numberOfRefusal : Refusal → ℕ
+numberOfRefusal NoSuchFluid = 1
+numberOfRefusal TemperatureOutOfRange = 2
+numberOfRefusal PressureOutOfRange = 3
+numberOfRefusal NoSuchSlot = 4

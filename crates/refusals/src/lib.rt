@@ -1,7 +1,7 @@
 // The refusals of a state (document 01, "Replies"), and the paper's number of each. Which of them a call
 // gives is said by its list of checks (specs/Checks.antt), in the paper's order.
 ghost use mathlib.Core.Path.{_≡_};
-ghost use Rattle.refusals.specs.Numbers.{numberOf};
+ghost use Rattle.refusals.specs.Numbers.{numberOfRefusal};
 
 pub enum Refusal {
     NoSuchFluid,
@@ -12,7 +12,7 @@ pub enum Refusal {
 
 impl Refusal {
     pub fn number(self) -> u64
-        ensures { λ r. ⌜ r ≡ numberOf self ⌝ }
+        ensures { λ r. ⌜ r ≡ numberOfRefusal self ⌝ }
     {
         match self {
             Refusal::NoSuchFluid => 1,

@@ -1,114 +1,104 @@
--- From what the crates below promise to what a call promises: an accepted state is within every bound that they ask, and a reply with its two
--- roots and their densities is the one that the definitions name. Assumes nothing.
-use mathlib.Core.Path.{_≡_, refl, sym, ap}
+-- From what the crates below promise to what a call promises: an accepted state is within every bound that they ask, and its two roots with
+-- their densities are what the definitions name. Assumes nothing.
+use mathlib.Core.Path.{_≡_, refl, sym, ap, _∙_}
 use mathlib.Core.List.{List}
 use Prim.Native.Nat.{ℕ, _<_}
 use native.Mathlib.Omega.{arith}
 use lib.ListN.{length, set}
-use Rattle.cubic.specs.Cubic.{Crossing, Kind}
+use Rattle.refusals.specs.Checks.{FirstOf, refuses, answers}
+use Rattle.refusals.proofs.Lists.{none-both, first-front, first-behind}
+use Rattle.cubic.specs.Cubic.{Crossing, Kind, ONE, SPLIT}
 use Rattle.cubic.specs.Promise.{Within, BothRoots}
 use Rattle.cubic.proofs.Theorems.{crossing-from-b, crossing-on-grid}
 use Rattle.fluid.specs.declared.choice.Fluid.{Fluid}
 use Rattle.fluid.specs.declared.coefficients.Reduced.{Reduced}
-use Rattle.fluid.specs.Figures.{numberOf, Accepted}
-use Rattle.fluid.specs.Promise.{Reached, Weighable}
+use Rattle.fluid.specs.Figures.{Accepted}
+use Rattle.fluid.specs.Checks.{stateChecks}
+use Rattle.fluid.specs.Reduced.{Reduces}
+use Rattle.fluid.specs.Promise.{Weighable}
+use Rattle.fluid.proofs.Accepting.{accepts}
 use Rattle.fluid.proofs.Theorems.{some-temperature, a-at-most, b-at-least-one, b-at-most}
-use Rattle.state.specs.declared.replies.Reply.{Reply}
-use Rattle.state.specs.declared.replies.Reply.the-variants.{One, Split, NoSuchFluid, TemperatureOutOfRange, PressureOutOfRange, NoSuchSlot}
-use Rattle.state.specs.Replies.{Answered, Replies}
-use Rattle.state.specs.Book.{Placed, Called}
-use Rattle.state.specs.Inside.{Refuses, Weighty, Reported, Reports}
+use Rattle.state.specs.declared.replies.Figures.{Figures}
+use Rattle.state.specs.Figures.{numberOfKind, refusedWith}
+use Rattle.state.specs.Replies.{Answered}
+use Rattle.state.specs.Book.{slotChecks, Placed, ifKind, bookAfter, Called}
+use Rattle.state.specs.Inside.{Found, Weighty, Reported}
 
-module _ {fluid : Fluid} {millikelvin pascals : ℕ} {reduced : Reduced} (reached : Reached fluid millikelvin pascals reduced) where
+module _ {fluid : Fluid} {millikelvin pascals : ℕ} {reduced : Reduced} (accepted : Accepted fluid millikelvin pascals) (reduces : Reduces fluid millikelvin pascals reduced) where
   pub within : Within (reduced .a) (reduced .b)
-  within = omega (arith, a-at-most reached, b-at-most reached)
+  within = omega (arith, a-at-most accepted reduces, b-at-most accepted reduces)
 
   weighable : {z : ℕ} → Crossing (reduced .a) (reduced .b) z → Weighable millikelvin pascals z
   weighable {z} crossing =
       omega (
         arith,
-        some-temperature (reached .accepted),
-        reached .accepted,
-        b-at-least-one reached,
-        b-at-most reached,
+        some-temperature accepted,
+        b-at-least-one accepted reduces,
+        b-at-most accepted reduces,
         crossing-from-b _ _ z crossing,
         crossing-on-grid _ _ z crossing,
       )
 
-  module _ {gas dense : ℕ} (roots : BothRoots (reduced .a) (reduced .b) gas dense) where
-    pub weighty : Weighty millikelvin pascals gas dense
-    weighty =
-        record { gas-fits = weighable (roots .is-gas .crossing); dense-fits = weighable (roots .is-dense .crossing) }
+-- an answered call writes, whichever kind it has
+writes : (kind : Kind) (written before : List ℕ) → ifKind (numberOfKind kind) written before ≡ written
+writes ONE written before = refl
+writes SPLIT written before = refl
 
-    -- either root fits a slot of the book
-    pub fits-slot : (gas < 4294967296) × (dense < 4294967296)
-    fits-slot =
-        omega (
-          arith,
-          b-at-most reached,
-          crossing-on-grid _ _ gas (roots .is-gas .crossing),
-          crossing-on-grid _ _ dense (roots .is-dense .crossing),
-        )
+module _ {number millikelvin pascals : ℕ} {fluid : Fluid} {gas dense : ℕ} (found : Found number millikelvin pascals fluid gas dense) where
+  accepted : Accepted fluid millikelvin pascals
+  accepted = accepts fluid (found .is-number) millikelvin pascals (found .passes)
 
-    named : {kind : Kind} {gas-root dense-root gas-density dense-density : ℕ} → Reported fluid millikelvin pascals gas dense kind gas-root dense-root gas-density dense-density → Answered fluid millikelvin pascals kind gas-root dense-root gas-density dense-density
-    named r =
-        rw (r .same-gas, r .same-dense)
-        (record {
-          accepted = reached .accepted;
-          reduced = reduced;
-          reduces = reached .reduces;
-          is-gas = roots .is-gas;
-          is-dense = roots .is-dense;
-          is-kind = r .is-kind;
-          is-gas-density = r .is-gas-density;
-          is-dense-density = r .is-dense-density;
-        })
-
-    module _ {number : ℕ} (is-number : number ≡ numberOf fluid) where
-      pub answered : (reply : Reply) → Reports fluid millikelvin pascals gas dense reply → Replies number millikelvin pascals reply
-      answered (One root grams) r = record { fluid = fluid; is-number = is-number; holds = named r }
-      answered (Split gas-root dense-root gas-density dense-density) r = record { fluid = fluid; is-number = is-number; holds = named r }
-      answered NoSuchFluid r = absurd r
-      answered TemperatureOutOfRange r = absurd r
-      answered PressureOutOfRange r = absurd r
-      answered NoSuchSlot r = absurd r
-
-      pub answered-in-slot : (slot : ℕ) (book : List ℕ) → Placed slot (length book) → (reply : Reply) → Reports fluid millikelvin pascals gas dense reply → Called number millikelvin pascals slot book reply (set book slot gas)
-      answered-in-slot slot book placed (One root grams) r =
-          record {
-            replies = record { placed = placed; replies = answered (One root grams) r };
-            leaves = ap (set book slot) (sym (r .same-gas));
-          }
-      answered-in-slot slot book placed (Split gas-root dense-root gas-density dense-density) r =
-          record {
-            replies = record { placed = placed; replies = answered (Split gas-root dense-root gas-density dense-density) r };
-            leaves = ap (set book slot) (sym (r .same-gas));
-          }
-      answered-in-slot slot book placed NoSuchFluid r = absurd r
-      answered-in-slot slot book placed TemperatureOutOfRange r = absurd r
-      answered-in-slot slot book placed PressureOutOfRange r = absurd r
-      answered-in-slot slot book placed NoSuchSlot r = absurd r
-
-module _ (number millikelvin pascals : ℕ) where
-  pub refused : (reply : Reply) → Refuses number millikelvin pascals reply → Replies number millikelvin pascals reply
-  refused (One root grams) r = absurd r
-  refused (Split gas dense gas-density dense-density) r = absurd r
-  refused NoSuchFluid r = r
-  refused TemperatureOutOfRange r = r
-  refused PressureOutOfRange r = r
-  refused NoSuchSlot r = absurd r
-
-  pub refused-before-slot : (slot : ℕ) (book : List ℕ) (reply : Reply) → Refuses number millikelvin pascals reply → Called number millikelvin pascals slot book reply book
-  refused-before-slot slot book (One root grams) r = absurd r
-  refused-before-slot slot book (Split gas dense gas-density dense-density) r = absurd r
-  refused-before-slot slot book NoSuchFluid r = record { replies = r; leaves = refl }
-  refused-before-slot slot book TemperatureOutOfRange r = record { replies = r; leaves = refl }
-  refused-before-slot slot book PressureOutOfRange r = record { replies = r; leaves = refl }
-  refused-before-slot slot book NoSuchSlot r = absurd r
-
-  pub no-slot : {fluid : Fluid} (slot : ℕ) (book : List ℕ) → number ≡ numberOf fluid → Accepted fluid millikelvin pascals → (Placed slot (length book) → ⊥) → Called number millikelvin pascals slot book NoSuchSlot book
-  no-slot {fluid} slot book is-number accepted nowhere =
+  pub weighty : Weighty millikelvin pascals gas dense
+  weighty =
       record {
-        replies = record { accepted = record { fluid = fluid; is-number = is-number; holds = accepted }; nowhere = nowhere };
-        leaves = refl;
+        gas-fits = weighable accepted (found .reduces) (found .roots .is-gas .crossing);
+        dense-fits = weighable accepted (found .reduces) (found .roots .is-dense .crossing);
       }
+
+  -- either root fits a slot of the book
+  pub fits-slot : (gas < 4294967296) × (dense < 4294967296)
+  fits-slot =
+      omega (
+        arith,
+        b-at-most accepted (found .reduces),
+        crossing-on-grid _ _ gas (found .roots .is-gas .crossing),
+        crossing-on-grid _ _ dense (found .roots .is-dense .crossing),
+      )
+
+  pub answered : {figures : Figures} → Reported fluid millikelvin pascals gas dense figures → Answered number millikelvin pascals figures
+  answered reported =
+      record {
+        fluid = fluid;
+        is-number = found .is-number;
+        reduced = found .reduced;
+        reduces = found .reduces;
+        gas = gas;
+        is-gas = found .roots .is-gas;
+        dense = dense;
+        is-dense = found .roots .is-dense;
+        kind = reported .kind;
+        is-kind = reported .is-kind;
+        is-figures = reported .is-figures;
+      }
+
+  module _ (slot : ℕ) (book : List ℕ) where
+    pub answered-in-slot : {figures : Figures} → Placed slot (length book) → Reported fluid millikelvin pascals gas dense figures → Called number millikelvin pascals slot book figures (set book slot gas)
+    answered-in-slot placed reported =
+        record {
+          replies = answers (none-both (stateChecks number millikelvin pascals) (slotChecks slot (length book)) (found .passes) placed) (answered reported);
+          leaves = sym (ap (bookAfter book slot) (reported .is-figures) ∙ writes (reported .kind) (set book slot gas) book);
+        }
+
+    pub no-slot : FirstOf (slotChecks slot (length book)) 4 → Called number millikelvin pascals slot book (refusedWith 4) book
+    no-slot first =
+        record {
+          replies = refuses 4 (first-behind (stateChecks number millikelvin pascals) (slotChecks slot (length book)) 4 (found .passes) first) refl;
+          leaves = refl;
+        }
+
+pub refused-before-slot : (number millikelvin pascals slot : ℕ) (book : List ℕ) (refusal : ℕ) → FirstOf (stateChecks number millikelvin pascals) refusal → Called number millikelvin pascals slot book (refusedWith refusal) book
+refused-before-slot number millikelvin pascals slot book refusal first =
+    record {
+      replies = refuses refusal (first-front (stateChecks number millikelvin pascals) (slotChecks slot (length book)) refusal first) refl;
+      leaves = refl;
+    }

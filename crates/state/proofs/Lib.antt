@@ -1,5 +1,4 @@
 -- The laws that belong to no one function. Each file cites only files that are named above it.
 pub mod Answering
-pub mod Exactly
 pub mod Determined
 pub mod Theorems

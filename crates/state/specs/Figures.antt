@@ -1,8 +1,10 @@
 -- Document 01, "Replies": the paper's number of each reply, and its five figures, which are zeros where the state is refused.
+use mathlib.Core.Path.{_≡_}
 use Prim.Native.Nat.{ℕ}
+use Rattle.refusals.specs.Numbers.{numberOfRefusal}
 use Rattle.cubic.specs.Cubic.{Kind, ONE, SPLIT}
 use Rattle.state.specs.declared.replies.Reply.{Reply}
-use Rattle.state.specs.declared.replies.Reply.the-variants.{One, Split, NoSuchFluid, TemperatureOutOfRange, PressureOutOfRange, NoSuchSlot}
+use Rattle.state.specs.declared.replies.Reply.the-variants.{One, Split, Refused}
 use Rattle.state.specs.declared.replies.Figures.{Figures}
 
 -- a refused state has no kind
@@ -24,14 +26,11 @@ answeredWith kind gas dense gas-density dense-density =
       «dense_density» = dense-density;
     }
 
-abbrev pub refusedWith : (number : ℕ) → Figures
-refusedWith number =
-    record { number = number; kind = none; «gas_root» = 0; «dense_root» = 0; «gas_density» = 0; «dense_density» = 0 }
+abbrev pub refusedWith : (refusal : ℕ) → Figures
+refusedWith refusal =
+    record { number = refusal; kind = none; «gas_root» = 0; «dense_root» = 0; «gas_density» = 0; «dense_density» = 0 }
 
 abbrev pub figuresOf : Reply → Figures
 figuresOf (One root density) = answeredWith ONE root root density density
 figuresOf (Split gas dense gas-density dense-density) = answeredWith SPLIT gas dense gas-density dense-density
-figuresOf NoSuchFluid = refusedWith 1
-figuresOf TemperatureOutOfRange = refusedWith 2
-figuresOf PressureOutOfRange = refusedWith 3
-figuresOf NoSuchSlot = refusedWith 4
+figuresOf (Refused refusal) = refusedWith (numberOfRefusal refusal)

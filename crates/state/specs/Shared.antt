@@ -2,6 +2,7 @@
 use mathlib.Core.List.{List, [], _∷_}
 use Prim.Native.Nat.{ℕ}
 use Rattle.state.specs.declared.replies.Reply.{Reply}
+use Rattle.state.specs.Figures.{figuresOf}
 use Rattle.state.specs.Book.{Called}
 
 pub record Call : Type 0 where
@@ -13,7 +14,7 @@ pub record Call : Type 0 where
 -- a call on a book gets a reply, and leaves some book
 pub record Gets (call : Call) (book : List ℕ) (reply : Reply) : Type 0 where
   pub after : List ℕ
-  pub called : Called (call .fluid) (call .millikelvin) (call .pascals) (call .slot) book reply after
+  pub called : Called (call .fluid) (call .millikelvin) (call .pascals) (call .slot) book (figuresOf reply) after
 
 -- each call finds the book as the one before it left it
 abbrev pub Shared : (book : List ℕ) → List Call → List Reply → Type 0

@@ -3,7 +3,8 @@ ghost use mathlib.Core.Path.{_≡_};
 ghost use Rattle.fluid.specs.Promise.{Weighable};
 ghost use Rattle.fluid.specs.Densities.{density};
 ghost use Rattle.cubic.specs.Promise.{Within, BothRoots};
-ghost use Rattle.state.specs.Inside.{Weighty, Reports};
+ghost use Rattle.state.specs.Figures.{figuresOf};
+ghost use Rattle.state.specs.Inside.{Weighty, Reported};
 use crate::replies::Reply;
 use cubic::Solution;
 use fluid::Density;
@@ -38,7 +39,7 @@ fn grams(fluid: Fluid, millikelvin: u64, pascals: u64, root: u64) -> u64
 
 pub(crate) fn answer(fluid: Fluid, millikelvin: u64, pascals: u64, roots: Roots) -> Reply
     requires { ⌜ Weighty millikelvin pascals (roots .gas) (roots .dense) ⌝ }
-    ensures { λ r. ⌜ Reports fluid millikelvin pascals (roots .gas) (roots .dense) r ⌝ }
+    ensures { λ r. ⌜ Reported fluid millikelvin pascals (roots .gas) (roots .dense) (figuresOf r) ⌝ }
 {
     let gas = roots.gas;
     let dense = roots.dense;

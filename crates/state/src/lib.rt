@@ -1,15 +1,16 @@
 // The reply to a state (document 01): a fluid's number, a temperature in millikelvin and a pressure in
 // pascals, each any 64-bit number at all, with a book of starting points or without one.
 mod answers;
-mod checks;
 mod replies;
 mod searches;
 
 ghost use Rattle.state.specs.Book.{Called};
+ghost use Rattle.state.specs.Figures.{figuresOf};
 ghost use Rattle.state.specs.Replies.{Replies};
 use crate::answers::answer;
 use crate::searches::Searched;
 use crate::searches::search;
+use refusals::Refusal;
 pub use replies::Figures;
 pub use replies::Reply;
 
@@ -20,10 +21,10 @@ const LAST_SLOT: u64 = 63;
 
 // Without a book: the search begins with no starting point.
 pub fn ask(fluid: u64, millikelvin: u64, pascals: u64) -> Reply
-    ensures { λ r. ⌜ Replies fluid millikelvin pascals r ⌝ }
+    ensures { λ r. ⌜ Replies fluid millikelvin pascals (figuresOf r) ⌝ }
 {
     match search(fluid, millikelvin, pascals, 0) {
-        Searched::Refused(refusal) => refusal,
+        Searched::Refused(refusal) => Reply::Refused(refusal),
         Searched::Found { fluid, roots } => answer(fluid, millikelvin, pascals, roots),
     }
 }
@@ -49,17 +50,17 @@ pub fn ask_with_book(
     slot: u64,
     book: &mut [u32],
 ) -> Reply
-    ensures { λ r. ⌜ Called fluid millikelvin pascals slot (now (book .entry)) r (now (book .exit)) ⌝ }
+    ensures { λ r. ⌜ Called fluid millikelvin pascals slot (now (book .entry)) (figuresOf r) (now (book .exit)) ⌝ }
 {
     let start = start_in(book, slot);
     match search(fluid, millikelvin, pascals, start) {
-        Searched::Refused(earlier) => earlier,
+        Searched::Refused(earlier) => Reply::Refused(earlier),
         Searched::Found { fluid, roots } => {
             if book.len() != SLOTS {
-                return Reply::NoSuchSlot;
+                return Reply::Refused(Refusal::NoSuchSlot);
             }
             if LAST_SLOT < slot {
-                return Reply::NoSuchSlot;
+                return Reply::Refused(Refusal::NoSuchSlot);
             }
             let at = slot as usize;
             let gas = roots.gas;

@@ -1,6 +1,7 @@
 // The reply to a state, and what the paper's table says of each of its cases.
 ghost use mathlib.Core.Path.{_≡_};
 ghost use Rattle.state.specs.Figures.{figuresOf, refusedWith};
+use refusals::Refusal;
 
 // Roots are in hundred-thousandths, densities in grams per cubic metre. The kind is the case: a state
 // whose two roots are equal is One, and has one density.
@@ -15,10 +16,7 @@ pub enum Reply {
         gas_density: u64,
         dense_density: u64,
     },
-    NoSuchFluid,
-    TemperatureOutOfRange,
-    PressureOutOfRange,
-    NoSuchSlot,
+    Refused(Refusal),
 }
 
 // The paper's number of a reply, and its five figures.
@@ -57,10 +55,7 @@ impl Reply {
                 gas_density,
                 dense_density,
             },
-            Reply::NoSuchFluid => refused(1),
-            Reply::TemperatureOutOfRange => refused(2),
-            Reply::PressureOutOfRange => refused(3),
-            Reply::NoSuchSlot => refused(4),
+            Reply::Refused(refusal) => refused(refusal.number()),
         }
     }
 }

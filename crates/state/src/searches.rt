@@ -2,22 +2,21 @@
 ghost use Rattle.state.specs.Inside.{Searches};
 use crate::answers::Roots;
 use crate::answers::both_roots;
-use crate::checks::Checked;
-use crate::checks::check;
-use crate::replies::Reply;
 use fluid::Fluid;
+use fluid::Reduction;
+use refusals::Refusal;
 
 pub(crate) enum Searched {
     Found { fluid: Fluid, roots: Roots },
-    Refused(Reply),
+    Refused(Refusal),
 }
 
 pub(crate) fn search(number: u64, millikelvin: u64, pascals: u64, start: u64) -> Searched
     ensures { λ r. ⌜ Searches number millikelvin pascals r ⌝ }
 {
-    match check(number, millikelvin, pascals) {
-        Checked::Refused(refusal) => Searched::Refused(refusal),
-        Checked::Accepted { fluid, reduced } => {
+    match fluid::reduce(number, millikelvin, pascals) {
+        Reduction::Refused(refusal) => Searched::Refused(refusal),
+        Reduction::To { fluid, reduced } => {
             let roots = both_roots(reduced.a, reduced.b, start);
             Searched::Found { fluid, roots }
         }

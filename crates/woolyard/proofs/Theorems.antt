@@ -58,7 +58,7 @@ refused-lays-zeros {reply} laid refused =
 
 pub refused-changes-no-book : {fluid millikelvin pascals slot number : ℕ} {book figures after : List ℕ} → BookAnswers fluid millikelvin pascals slot book number figures after → (number ≡ 0 → ⊥) → after ≡ book
 refused-changes-no-book p refused =
-    state.refused-changes-nothing _ _ _ _ (p .reply) (λ answered. refused (p .laid .is-number ∙ answered)) (p .called)
+    state.refused-changes-nothing _ _ _ _ (λ answered. refused (p .laid .is-number ∙ answered)) (p .called)
 
 -- ---- the heat capacity
 pub heat-determined : (kelvin before : Float) (number number′ : ℕ) (after after′ : Float) → HeatAnswers kelvin before number after → HeatAnswers kelvin before number′ after′ → (number ≡ number′) × (after ≡ after′)

@@ -19,10 +19,10 @@ pub record Laid (reply : Reply) (number : ℕ) (figures : List ℕ) : Type 0 whe
 
 pub record StateAnswers (fluid millikelvin pascals number : ℕ) (figures : List ℕ) : Type 0 where
   pub reply : Reply
-  pub replies : Replies fluid millikelvin pascals reply
+  pub replies : Replies fluid millikelvin pascals (figuresOf reply)
   pub laid : Laid reply number figures
 
 pub record BookAnswers (fluid millikelvin pascals slot : ℕ) (before : List ℕ) (number : ℕ) (figures after : List ℕ) : Type 0 where
   pub reply : Reply
-  pub called : Called fluid millikelvin pascals slot before reply after
+  pub called : Called fluid millikelvin pascals slot before (figuresOf reply) after
   pub laid : Laid reply number figures

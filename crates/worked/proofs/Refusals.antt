@@ -1,57 +1,66 @@
 -- The test of a refused row. A refusal that does not look at the pressure, or at the slot, is given for each of them. Assumes nothing.
-use mathlib.Core.Path.{_≡_}
-use Prim.Native.Nat.{ℕ}
-use native.Mathlib.Nat.{not-le-of-lt}
+use mathlib.Core.Path.{_≡_, refl}
+use mathlib.Core.Logic.{inl, inr}
+use Prim.Native.Nat.{ℕ, _<_}
+use Rattle.refusals.specs.Checks.{FirstOf, refuses}
+use Rattle.refusals.proofs.Lists.{first-front, first-behind}
 use Rattle.fluid.specs.declared.choice.Fluid.{Fluid}
 use Rattle.fluid.specs.declared.choice.Fluid.the-variants.{Hydrogen, Oxygen}
-use Rattle.fluid.specs.Figures.{numberOf, TemperatureInRange}
-use Rattle.fluid.specs.Promise.{WrongPressure}
-use Rattle.state.specs.declared.replies.Reply.{Reply}
-use Rattle.state.specs.declared.replies.Reply.the-variants.{One, Split, NoSuchFluid, TemperatureOutOfRange, PressureOutOfRange, NoSuchSlot}
-use Rattle.state.specs.Replies.{OfFluid}
-use Rattle.state.specs.Book.{Misplaced}
+use Rattle.fluid.specs.Figures.{numberOf, coldest, hottest, lowest, highest, Accepted}
+use Rattle.fluid.specs.Checks.{stateChecks}
+use Rattle.fluid.proofs.Accepting.{no-fluid, unknown-fluid, wrong-temperature, wrong-pressure, passes}
+use Rattle.state.specs.Figures.{refusedWith}
+use Rattle.state.specs.Book.{slotChecks}
 use Rattle.worked.specs.Rows.{Span, ForEach, Replied, RightRefusal}
-use Rattle.worked.proofs.Tests.{Tested, by, _with_, _or_, never, equal, differ, below, outside}
+use Rattle.worked.proofs.Tests.{Tested, by, _with_, _or_, equal, differ, at-most, below}
 use Rattle.worked.proofs.Spans.{for-each, at-each}
-use Rattle.worked.proofs.Answers.{temperature-in-range, of-this, accepted}
+use Rattle.worked.proofs.Answers.{accepted}
 
-abbrev pub of-fluid : {Holds : Fluid → Type 0} (number : ℕ) → ((fluid : Fluid) → Tested (Holds fluid)) → Tested (OfFluid number Holds)
-of-fluid number tested = of-this number Hydrogen (tested Hydrogen) or of-this number Oxygen (tested Oxygen)
+-- a state's own refusal is given with a book too
+pub before-slot : (number millikelvin pascals slot refusal : ℕ) → FirstOf (stateChecks number millikelvin pascals) refusal → Replied number millikelvin pascals slot (refusedWith refusal)
+before-slot number millikelvin pascals slot refusal first =
+    refuses refusal (first-front (stateChecks number millikelvin pascals) (slotChecks slot 64) refusal first) refl
 
-module _ (number : ℕ) where
-  pub of-none : (number ≡ numberOf Hydrogen → ⊥) → (number ≡ numberOf Oxygen → ⊥) → (fluid : Fluid) → number ≡ numberOf fluid → ⊥
-  of-none hydrogen oxygen Hydrogen = hydrogen
-  of-none hydrogen oxygen Oxygen = oxygen
+module _ (number millikelvin refusal : ℕ) where
+  abbrev pub unknown : Tested ((pascals : ℕ) → FirstOf (stateChecks number millikelvin pascals) refusal)
+  unknown =
+      by (λ is-1 hydrogen oxygen pascals. unknown-fluid number millikelvin pascals is-1 (no-fluid hydrogen oxygen))
+      with equal refusal 1 with differ number (numberOf Hydrogen) with differ number (numberOf Oxygen)
 
-  abbrev pub no-such-fluid : Tested ((fluid : Fluid) → number ≡ numberOf fluid → ⊥)
-  no-such-fluid = by of-none with differ _ _ with differ _ _
+  module _ (fluid : Fluid) where
+    abbrev pub temperature : Tested ((pascals : ℕ) → FirstOf (stateChecks number millikelvin pascals) refusal)
+    temperature =
+        by (λ is-2 is-number out pascals. wrong-temperature fluid is-number millikelvin pascals is-2 out)
+        with equal refusal 2 with equal number (numberOf fluid) with (by inl with below millikelvin (coldest fluid) or by inr with below hottest millikelvin)
 
-module _ (number millikelvin : ℕ) where
-  abbrev pub temperature-out-of-range : Tested (OfFluid number (λ fluid. TemperatureInRange fluid millikelvin → ⊥))
-  temperature-out-of-range =
-      of-fluid number (λ fluid. by (λ out inside. out (inside .from-coldest) (inside .to-hottest)) with outside _ _ _)
+    abbrev pub pressure : (pascals : ℕ) → Tested (FirstOf (stateChecks number millikelvin pascals) refusal)
+    pressure pascals =
+        by (λ is-3 is-number from to out. wrong-pressure fluid is-number millikelvin pascals is-3 from to out)
+        with equal refusal 3 with equal number (numberOf fluid) with at-most (coldest fluid) millikelvin with at-most millikelvin hottest
+        with (by inl with below pascals lowest or by inr with below highest pascals)
 
-  abbrev pub pressure-out-of-range : (pascals : ℕ) → Tested (OfFluid number (λ fluid. WrongPressure fluid millikelvin pascals))
-  pressure-out-of-range pascals =
-      of-fluid number
-      (λ fluid.
-      by (λ temperature out. record { temperature = temperature; pressure = λ inside. out (inside .from-lowest) (inside .to-highest) })
-      with temperature-in-range fluid millikelvin with outside _ _ _)
+    pub past-slots : refusal ≡ 4 → number ≡ numberOf fluid → (pascals slot : ℕ) → Accepted fluid millikelvin pascals → 63 < slot → Replied number millikelvin pascals slot (refusedWith refusal)
+    past-slots is-4 is-number pascals slot accepted past =
+        refuses refusal
+        (first-behind (stateChecks number millikelvin pascals) (slotChecks slot 64) refusal (passes fluid is-number millikelvin pascals accepted) (inl (inr past, is-4)))
+        refl
 
-  abbrev pub no-such-slot : (pascals slot length : ℕ) → Tested (Misplaced number millikelvin pascals slot length)
-  no-such-slot pascals slot length =
-      by (λ accepted past. record { accepted = accepted; nowhere = λ placed. not-le-of-lt past (placed .has-slot) })
-      with of-fluid number (λ fluid. accepted fluid millikelvin pascals) with below _ _
+    abbrev pub slot-past : (pascals slot : ℕ) → Tested (Replied number millikelvin pascals slot (refusedWith refusal))
+    slot-past pascals slot =
+        by (λ is-4 is-number accepted past. past-slots is-4 is-number pascals slot accepted past)
+        with equal refusal 4 with equal number (numberOf fluid) with accepted fluid millikelvin pascals with below 63 slot
 
   module _ (pressures slots : Span) where
-    abbrev pub refuses : (reply : Reply) → Tested (ForEach pressures (λ pascals. ForEach slots (λ slot. Replied number millikelvin pascals slot reply)))
-    refuses (One root grams) = never
-    refuses (Split gas dense gas-density dense-density) = never
-    refuses NoSuchFluid = by (λ none. at-each pressures (λ pascals. at-each slots (λ slot. none))) with no-such-fluid number
-    refuses TemperatureOutOfRange = by (λ out. at-each pressures (λ pascals. at-each slots (λ slot. out))) with temperature-out-of-range
-    refuses PressureOutOfRange = for-each pressures (λ pascals. by (λ out. at-each slots (λ slot. out)) with pressure-out-of-range pascals)
-    refuses NoSuchSlot = for-each pressures (λ pascals. for-each slots (λ slot. no-such-slot pascals slot _))
+    abbrev pub at-every-pressure : Tested ((pascals : ℕ) → FirstOf (stateChecks number millikelvin pascals) refusal) → Tested (RightRefusal number millikelvin pressures slots refusal)
+    at-every-pressure tested =
+        by (λ first. at-each pressures (λ pascals. at-each slots (λ slot. before-slot number millikelvin pascals slot refusal (first pascals)))) with tested
 
-    abbrev pub right-refusal : (refusal : ℕ) (reply : Reply) → Tested (RightRefusal number millikelvin pressures slots refusal reply)
-    right-refusal refusal reply =
-        by (λ is-refusal replies. record { is-refusal = is-refusal; replies = replies }) with equal _ _ with refuses reply
+    abbrev pub of-fluid : (fluid : Fluid) → Tested (RightRefusal number millikelvin pressures slots refusal)
+    of-fluid fluid =
+        at-every-pressure (temperature fluid)
+        or for-each pressures
+        (λ pascals. by (λ first. at-each slots (λ slot. before-slot number millikelvin pascals slot refusal first)) with pressure fluid pascals)
+        or for-each pressures (λ pascals. for-each slots (λ slot. slot-past fluid pascals slot))
+
+    abbrev pub right-refusal : Tested (RightRefusal number millikelvin pressures slots refusal)
+    right-refusal = at-every-pressure unknown or of-fluid Hydrogen or of-fluid Oxygen

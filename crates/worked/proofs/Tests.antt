@@ -3,7 +3,6 @@
 use mathlib.Core.Path.{_≡_}
 use mathlib.Core.Bool.{Bool, true, false, not, _&&_, _||_}
 use Prim.Native.Nat.{ℕ, _≤_, _<_}
-use native.Mathlib.Nat.{not-le-of-lt}
 use lib.Dec.{T, T-not, leb, ltb, eqb, leb→le, ltb→lt, eqb→eq, eqb-refl}
 
 -- What is made of these is an `abbrev`, so that the test of a row of numerals computes.
@@ -49,7 +48,3 @@ module _ (m n : ℕ) where
 
   abbrev pub below : Tested (m < n)
   below = record { test = ltb m n; shows = ltb→lt m n }
-
-abbrev pub outside : (low high n : ℕ) → Tested (low ≤ n → n ≤ high → ⊥)
-outside low high n =
-    by (λ under from to. not-le-of-lt under from) with below n low or by (λ over from to. not-le-of-lt over to) with below high n

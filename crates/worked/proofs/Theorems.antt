@@ -18,7 +18,7 @@ abbrev pub tested : (row : Row) → Tested (Right row)
 tested (answered fluid millikelvin pascals critical-millikelvin critical-pascals reduced slots reply) =
     right-answer fluid millikelvin pascals critical-millikelvin critical-pascals reduced slots reply
 tested (value a b z is) = same (g a b z) is
-tested (refused number millikelvin pressures slots refusal reply) = right-refusal number millikelvin pressures slots refusal reply
+tested (refused number millikelvin pressures slots refusal) = right-refusal number millikelvin refusal pressures slots
 
 abbrev pub holds : Row → Bool
 holds row = tested row .test

@@ -9,7 +9,8 @@ use Rattle.fluid.specs.declared.coefficients.Reduced.{Reduced}
 use Rattle.fluid.specs.Figures.{numberOf, criticalMillikelvin, criticalPascals}
 use Rattle.fluid.specs.Reduced.{Reduces}
 use Rattle.state.specs.declared.replies.Reply.{Reply}
-use Rattle.state.specs.Figures.{figuresOf}
+use Rattle.state.specs.declared.replies.Figures.{Figures}
+use Rattle.state.specs.Figures.{refusedWith, figuresOf}
 use Rattle.state.specs.Book.{RepliesWithBook}
 
 -- the pressures, or the slots, of which a row speaks
@@ -23,31 +24,31 @@ ForEach (up-to n) Holds = (k : ℕ) → k ≤ n → Holds k
 ForEach all Holds = (k : ℕ) → Holds k
 
 -- An answered row is a state with its critical constants, its coefficients, the slots and the reply; a value row is g(z) for an a and a b;
--- a refused row has the fluid's number, the temperature, the pressures, the slots, the paper's number of the refusal and the reply.
+-- a refused row has the fluid's number, the temperature, the pressures, the slots and the paper's number of the refusal.
 pub data Row : Type 0 where
   answered : (fluid : Fluid) (millikelvin pascals critical-millikelvin critical-pascals : ℕ) → Reduced → (slots : Span) → Reply → Row
   value : (a b z : ℕ) → ℤ → Row
-  refused : (number millikelvin : ℕ) (pressures slots : Span) (refusal : ℕ) → Reply → Row
+  refused : (number millikelvin : ℕ) (pressures slots : Span) (refusal : ℕ) → Row
 
--- the reply to a call with a book of 64 numbers, whatever they are; but for `NoSuchSlot` it is the reply to a call without a book too
-abbrev pub Replied : (number millikelvin pascals slot : ℕ) → Reply → Type 0
-Replied number millikelvin pascals slot reply = RepliesWithBook number millikelvin pascals slot 64 reply
+-- what a call with a book of 64 numbers tells, whatever they are; but for 4 a call without a book tells it too
+abbrev pub Replied : (number millikelvin pascals slot : ℕ) → Figures → Type 0
+Replied number millikelvin pascals slot = RepliesWithBook number millikelvin pascals slot 64
 
 pub record RightAnswer (fluid : Fluid) (millikelvin pascals critical-millikelvin critical-pascals : ℕ) (reduced : Reduced) (slots : Span) (reply : Reply) : Type 0 where
   pub is-critical-millikelvin : critical-millikelvin ≡ criticalMillikelvin fluid millikelvin
   pub is-critical-pascals : critical-pascals ≡ criticalPascals fluid millikelvin
   pub reduces : Reduces fluid millikelvin pascals reduced
-  pub replies : ForEach slots (λ slot. Replied (numberOf fluid) millikelvin pascals slot reply)
+  pub replies : ForEach slots (λ slot. Replied (numberOf fluid) millikelvin pascals slot (figuresOf reply))
 
-pub record RightRefusal (number millikelvin : ℕ) (pressures slots : Span) (refusal : ℕ) (reply : Reply) : Type 0 where
-  pub is-refusal : refusal ≡ figuresOf reply .number
-  pub replies : ForEach pressures (λ pascals. ForEach slots (λ slot. Replied number millikelvin pascals slot reply))
+abbrev pub RightRefusal : (number millikelvin : ℕ) (pressures slots : Span) (refusal : ℕ) → Type 0
+RightRefusal number millikelvin pressures slots refusal =
+    ForEach pressures (λ pascals. ForEach slots (λ slot. Replied number millikelvin pascals slot (refusedWith refusal)))
 
 abbrev pub Right : Row → Type 0
 Right (answered fluid millikelvin pascals critical-millikelvin critical-pascals reduced slots reply) =
     RightAnswer fluid millikelvin pascals critical-millikelvin critical-pascals reduced slots reply
 Right (value a b z is) = g a b z ≡ is
-Right (refused number millikelvin pressures slots refusal reply) = RightRefusal number millikelvin pressures slots refusal reply
+Right (refused number millikelvin pressures slots refusal) = RightRefusal number millikelvin pressures slots refusal
 
 pub data Every (Holds : Row → Type 0) : List Row → Type 0 where
   none : Every Holds []

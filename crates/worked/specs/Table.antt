@@ -4,7 +4,7 @@
 use mathlib.Core.List.{List, [], _∷_}
 use lib.IntN.{pos, negℤ}
 use Rattle.fluid.specs.declared.choice.Fluid.the-variants.{Hydrogen, Oxygen}
-use Rattle.state.specs.declared.replies.Reply.the-variants.{One, Split, NoSuchFluid, TemperatureOutOfRange, PressureOutOfRange, NoSuchSlot}
+use Rattle.state.specs.declared.replies.Reply.the-variants.{One, Split}
 use Rattle.worked.specs.Rows.{Row, answered, value, refused, only, up-to, all}
 
 unfoldable pub table : List Row
@@ -16,10 +16,10 @@ table =
     ∷ value 7984 1106 92696 (negℤ (pos 84314720))
     ∷ answered Hydrogen 300000 1000000 42083 1907366 (record { t = 71287; p = 524283; s = 26699; a = 165; b = 637 }) (up-to 63) (One 100474 804)
     ∷ answered Hydrogen 1000000 10000 43133 2002851 (record { t = 231841; p = 4992; s = 48149; a = 0; b = 1 }) (up-to 63) (One 100001 2)
-    ∷ refused 1 55999 all all 2 TemperatureOutOfRange
-    ∷ refused 1 56000 (only 9999) all 3 PressureOutOfRange
+    ∷ refused 1 55999 all all 2
+    ∷ refused 1 56000 (only 9999) all 3
     ∷ answered Oxygen 56000 10000 154576 5042000 (record { t = 3622; p = 1983; s = 6018; a = 1073; b = 47 }) (up-to 63) (Split 98963 51 694 1347613)
     ∷ answered Oxygen 56000 50000000 154576 5042000 (record { t = 3622; p = 9916699; s = 6018; a = 5369500; b = 237212 }) (up-to 63) (One 256275 1340909)
-    ∷ refused 2 0 all all 1 NoSuchFluid
-    ∷ refused 1 300000 (only 1000000) (only 64) 4 NoSuchSlot
+    ∷ refused 2 0 all all 1
+    ∷ refused 1 300000 (only 1000000) (only 64) 4
     ∷ []

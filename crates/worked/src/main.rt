@@ -2,7 +2,6 @@
 // line for each. The gate holds the output to the paper's figures. What is starred there is proved of
 // the definitions as well (specs/Table.antt).
 use cubic::Solution;
-use fluid::Numbered;
 use fluid::Reduced;
 use fluid::Reduction;
 use libc::STDOUT_FILENO;
@@ -36,13 +35,9 @@ fn say_reduced(reduced: Reduced) {
 }
 
 fn say_coefficients(number: u64, millikelvin: u64, pascals: u64) {
-    match fluid::of_number(number) {
-        Numbered::NoFluid => say(b": no such fluid"),
-        Numbered::Fluid(fluid) => match fluid::reduce(fluid, millikelvin, pascals) {
-            Reduction::TemperatureOutOfRange => say(b": temperature out of range"),
-            Reduction::PressureOutOfRange => say(b": pressure out of range"),
-            Reduction::To(reduced) => say_reduced(reduced),
-        },
+    match fluid::reduce(number, millikelvin, pascals) {
+        Reduction::Refused(refusal) => say_number(b": NO ", refusal.number()),
+        Reduction::To { fluid: _, reduced } => say_reduced(reduced),
     }
 }
 

@@ -1,7 +1,9 @@
 -- `state::ask` meets its contract: a refusal is passed on, and the two roots of an accepted state make its answer (`Answering.antt`).
 -- Assumes nothing.
+use mathlib.Core.Path.{refl}
+use Rattle.refusals.specs.Checks.{refuses, answers}
 use Rattle.state.specs.Inside.{Found}
-use Rattle.state.proofs.Answering.{weighty, answered, refused}
+use Rattle.state.proofs.Answering.{weighty, answered}
 use borrow.Author.Needs.{needs}
 use Rattle.state.proofs.ask.Statement.{statement}
 use Rattle.state.proofs.ask.Tie as tie
@@ -20,18 +22,15 @@ enum-known-fluid : tie.Need-enum-known-fluid
 enum-known-fluid c = search needs
 
 answer-requires : tie.Need-answer-requires
-answer-requires c κs = weighty (found (c .before) .reached) (found (c .before) .roots)
+answer-requires c κs = weighty (found (c .before))
 
 returns : tie.Need-returns
-returns c =
-    let start = c .before .before .before .before .args in
-    refused (start .fluid) (start .millikelvin) (start .pascals) (c .before .refusal .given .0 .0)
-    (rw (c .before .refusal .given .1) at (c .before .before .before .search .ensures))
+returns c = refuses _ (rw (c .before .refusal .given .1) at (c .before .before .before .search .ensures)) refl
 
 returns-2 : tie.Need-returns-2
 returns-2 c =
-    let roots = found (c .before .before) in
-    answered (roots .reached) (roots .roots) (roots .is-number) (c .answer .result) (c .answer .ensures)
+    let state = found (c .before .before) in
+    answers (state .passes) (answered state (c .answer .ensures))
 
 pub ask-spec : {M : Type 1} → statement M
 ask-spec =

@@ -1,5 +1,7 @@
 -- `state::ask_with_book` meets its contract: a refusal is passed on with the book as it was, and the two roots of an accepted state make its
 -- answer, the gas root left in the slot (`Answering.antt`). What the slot held is handed to the search and forgotten. Assumes nothing.
+use mathlib.Core.Path.{refl}
+use mathlib.Core.Logic.{inl, inr, ⊎-elim}
 use native.Mathlib.Omega.{arith}
 use lib.ListN.{length}
 use Rattle.state.specs.Book.{Placed}
@@ -15,7 +17,7 @@ found c = rw (c .fluid .given .1) at (c .before .before .search .ensures)
 
 -- the call past its two tests of the slot
 placed : (c : tie.Else2) → let start = c .before .before .before .before .before .before .before .before .before .args in Placed (start .slot) (length (start .book .now))
-placed c = omega arith
+placed c = (⊎-elim (λ other. other (omega arith)) (λ past. omega arith), tt)
 
 start-in-requires : tie.Need-start-in-requires
 start-in-requires c κs = search needs
@@ -34,21 +36,18 @@ same-length c = search needs
 
 returns : tie.Need-returns
 returns c =
-    let roots = found (c .before .before) in
-    no-slot _ _ _ _ _ (roots .is-number) (roots .reached .accepted) (λ there. omega arith)
+    no-slot (found (c .before .before)) _ _ (inl (inl (λ same. omega arith), refl))
 
 same-length-2 : tie.Need-same-length-2
 same-length-2 c = search needs
 
 returns-2 : tie.Need-returns-2
 returns-2 c =
-    let roots = found (c .before .before .before) in
-    no-slot _ _ _ _ _ (roots .is-number) (roots .reached .accepted) (λ there. omega arith)
+    no-slot (found (c .before .before .before)) _ _ (inl (inr (omega arith), refl))
 
 cast-book : tie.Need-cast-book
 cast-book c =
-    let roots = found (c .before .before .before) in
-    omega (arith, fits-slot (roots .reached) (roots .roots))
+    omega (arith, fits-slot (found (c .before .before .before)))
 
 mul-book : tie.Need-mul-book
 mul-book c = search needs
@@ -58,8 +57,7 @@ slice-write-book c = search needs
 
 answer-requires : tie.Need-answer-requires
 answer-requires c κs =
-    let roots = found (c .before .before .before) in
-    weighty (roots .reached) (roots .roots)
+    weighty (found (c .before .before .before))
 
 same-length-3 : tie.Need-same-length-3
 same-length-3 c = search needs
@@ -67,7 +65,7 @@ same-length-3 c = search needs
 returns-3 : tie.Need-returns-3
 returns-3 c =
     let start = c .before .before .before .before .before .before .before .args in
-    refused-before-slot (start .fluid) (start .millikelvin) (start .pascals) _ _ (c .before .earlier .given .0 .0)
+    refused-before-slot (start .fluid) (start .millikelvin) (start .pascals) _ _ _
     (rw (c .before .earlier .given .1) at (c .before .before .before .search .ensures))
 
 same-length-4 : tie.Need-same-length-4
@@ -75,8 +73,7 @@ same-length-4 c = search needs
 
 returns-4 : tie.Need-returns-4
 returns-4 c =
-    let roots = found (c .before .before .before .before) in
-    answered-in-slot (roots .reached) (roots .roots) (roots .is-number) _ _ (placed (c .before)) (c .answer .result) (c .answer .ensures)
+    answered-in-slot (found (c .before .before .before .before)) _ _ (placed (c .before)) (c .answer .ensures)
 
 pub ask-with-book-spec : {M : Type 1} → statement M
 ask-with-book-spec =

@@ -1,118 +1,45 @@
--- `fluid::coefficients::reduce` meets its contract: its tests are the ranges' ends, each value is the definition's quotient, and `Ranges.antt`
--- bounds what it is made of. Assumes nothing.
-use mathlib.Core.Path.{_≡_, refl, ap}
-use Prim.Native.Nat.{_*_, _/_}
-use native.Mathlib.Omega.{arith}
-use Rattle.fluid.specs.declared.choice.Figures.{Figures}
-use Rattle.fluid.specs.Figures.{coldest, Accepted}
-use Rattle.fluid.proofs.Ranges.{Spanned, spanned, Bounds, bounds}
+-- `fluid::coefficients::reduce` meets its contract: a number that is no fluid's is refused first, and any other is its fluid's. Assumes nothing.
+use mathlib.Core.Path.{sym, subst}
+use Prim.Native.Nat.{ℕ}
+use borrow.Author.Needs.{needs}
+use Rattle.refusals.proofs.Lists.{first-front}
+use Rattle.fluid.specs.Promise.{reduction, ReducesTo}
+use Rattle.fluid.specs.Checks.{fluidChecks, rangeChecks}
 use Rattle.fluid.proofs.coefficients.reduce.Statement.{statement}
 use Rattle.fluid.proofs.coefficients.reduce.Tie as tie
 
-is-coldest : (c : tie.After-figures-at) → c .figures-at .result .«coldest_millikelvin» ≡ coldest (c .before .before .args .fluid)
-is-coldest c = ap (λ (f : Figures). f .«coldest_millikelvin») (c .figures-at .ensures)
+of-number-requires : tie.Need-of-number-requires
+of-number-requires c κs = search needs
 
--- the state past its four tests
-accepted : (c : tie.Else4) → let start = c .before .before .before .before .before .args in Accepted (start .fluid) (start .millikelvin) (start .pascals)
-accepted c = omega (arith, is-coldest (c .before .before .before))
+enum-known-refusal : tie.Need-enum-known-refusal
+enum-known-refusal c = search needs
 
--- what is known of the critical constants, t and p of such a state, and of s too, once its root is found
-known : (c : tie.Else4) → let figures = c .before .before .before in let start = figures .before .before .args in let tc = figures .figures-at .result .«critical_millikelvin» in let pc = figures .figures-at .result .«critical_pascals» in Spanned tc pc (10000 * start .millikelvin / tc) (1000000 * start .pascals / pc)
-known c = rw (c .before .before .before .figures-at .ensures) (spanned _ _ _ (accepted c))
+enum-known-fluid : tie.Need-enum-known-fluid
+enum-known-fluid c = search needs
 
-found : (c : tie.After-square-root) → let figures = c .before .before .before .before .before .before in let start = figures .before .before .args in Bounds (10000 * start .millikelvin / figures .figures-at .result .«critical_millikelvin») (1000000 * start .pascals / figures .figures-at .result .«critical_pascals») (c .square-root .result)
-found c = bounds (known (c .before .before .before)) (c .square-root .ensures)
+reduce-fluid-requires : tie.Need-reduce-fluid-requires
+reduce-fluid-requires c κs = search needs
 
 returns : tie.Need-returns
-returns c = omega arith
-
-figures-at-requires : tie.Need-figures-at-requires
-figures-at-requires c κs = omega arith
+returns c =
+    let start = c .before .before .before .before .args in
+    first-front (fluidChecks (start .number)) (rangeChecks (start .number) (start .millikelvin) (start .pascals)) _
+    (rw (c .before .refusal .given .1) at (c .before .before .before .of-number .ensures))
 
 returns-2 : tie.Need-returns-2
-returns-2 c = omega (arith, is-coldest (c .before))
-
-returns-3 : tie.Need-returns-3
-returns-3 c = omega (arith, is-coldest (c .before .before))
-
-returns-4 : tie.Need-returns-4
-returns-4 c = omega (arith, is-coldest (c .before .before .before))
-
-mul-t : tie.Need-mul-t
-mul-t c = omega arith
-
-div-t : tie.Need-div-t
-div-t c = omega (arith, known (c .before))
-
-mul-p : tie.Need-mul-p
-mul-p c = omega arith
-
-div-p : tie.Need-div-p
-div-p c = omega (arith, known (c .before .before))
-
-mul-square-root : tie.Need-mul-square-root
-mul-square-root c = omega (arith, known (c .before .before))
-
-square-root-requires : tie.Need-square-root-requires
-square-root-requires c κs = omega (arith, known (c .before .before))
-
-mul-t10 : tie.Need-mul-t10
-mul-t10 c = omega (arith, found c)
-
-mul-t11 : tie.Need-mul-t11
-mul-t11 c = omega (arith, found c)
-
-mul-t12 : tie.Need-mul-t12
-mul-t12 c = omega (arith, found c)
-
-div-t13 : tie.Need-div-t13
-div-t13 c = omega (arith, found c)
-
-mul-t14 : tie.Need-mul-t14
-mul-t14 c = omega (arith, found c)
-
-mul-t15 : tie.Need-mul-t15
-mul-t15 c = omega (arith, found c)
-
-div-t16 : tie.Need-div-t16
-div-t16 c = omega (arith, found c)
-
-returns-5 : tie.Need-returns-5
-returns-5 c =
-    let figures = c .before .before .before .before .before .before in
-    let start = figures .before .before .args in
-    record {
-      accepted = accepted (c .before .before .before);
-      reduces =
-          record {
-            is-t = ap (λ (f : Figures). 10000 * start .millikelvin / f .«critical_millikelvin») (figures .figures-at .ensures);
-            is-p = ap (λ (f : Figures). 1000000 * start .pascals / f .«critical_pascals») (figures .figures-at .ensures);
-            is-s = c .square-root .ensures;
-            is-a = refl;
-            is-b = refl;
-          };
-    }
+returns-2 c =
+    let found = c .before .before in
+    let start = found .before .before .before .args in
+    let numbered = rw (found .fluid .given .1) at (found .before .before .of-number .ensures) in
+    subst (λ (number : ℕ). ReducesTo number (start .millikelvin) (start .pascals) (reduction (c .reduce-fluid .result))) (sym (numbered .1)) (c .reduce-fluid .ensures)
 
 pub reduce-spec : {M : Type 1} → statement M
 reduce-spec =
     tie.close
     (tie.spec
+    of-number-requires
+    enum-known-refusal
+    enum-known-fluid
+    reduce-fluid-requires
     returns
-    figures-at-requires
-    returns-2
-    returns-3
-    returns-4
-    mul-t
-    div-t
-    mul-p
-    div-p
-    mul-square-root
-    square-root-requires
-    mul-t10
-    mul-t11
-    mul-t12
-    div-t13
-    mul-t14
-    mul-t15
-    div-t16
-    returns-5)
+    returns-2)

@@ -1,6 +1,7 @@
 -- `state::replies::Reply::figures` meets its contract, case by case. Assumes nothing.
-use mathlib.Core.Path.{refl}
+use mathlib.Core.Path.{refl, ap, _∙_}
 use borrow.Author.Needs.{needs}
+use Rattle.state.specs.Figures.{refusedWith}
 use Rattle.state.proofs.replies.Reply.figures.Statement.{statement}
 use Rattle.state.proofs.replies.Reply.figures.Tie as tie
 
@@ -10,29 +11,14 @@ enum-known-self c = search needs
 enum-known-self-2 : tie.Need-enum-known-self-2
 enum-known-self-2 c = search needs
 
-enum-told : tie.Need-enum-told
-enum-told c = search needs
+enum-known-self-3 : tie.Need-enum-known-self-3
+enum-known-self-3 c = search needs
+
+number-requires : tie.Need-number-requires
+number-requires c κs = search needs
 
 refused-requires : tie.Need-refused-requires
 refused-requires c κs = search needs
-
-enum-told-2 : tie.Need-enum-told-2
-enum-told-2 c = search needs
-
-refused-requires-2 : tie.Need-refused-requires-2
-refused-requires-2 c κs = search needs
-
-enum-told-3 : tie.Need-enum-told-3
-enum-told-3 c = search needs
-
-refused-requires-3 : tie.Need-refused-requires-3
-refused-requires-3 c κs = search needs
-
-enum-told-4 : tie.Need-enum-told-4
-enum-told-4 c = search needs
-
-refused-requires-4 : tie.Need-refused-requires-4
-refused-requires-4 c κs = search needs
 
 returns : tie.Need-returns
 returns c = rw (c .before .self .given .1) refl
@@ -41,16 +27,7 @@ returns-2 : tie.Need-returns-2
 returns-2 c = rw (c .before .self2 .given .1) refl
 
 returns-3 : tie.Need-returns-3
-returns-3 c = rw (c .before .enum-told .given .1) (c .refused .ensures)
-
-returns-4 : tie.Need-returns-4
-returns-4 c = rw (c .before .enum-told2 .given .1) (c .refused2 .ensures)
-
-returns-5 : tie.Need-returns-5
-returns-5 c = rw (c .before .enum-told3 .given .1) (c .refused3 .ensures)
-
-returns-6 : tie.Need-returns-6
-returns-6 c = rw (c .before .enum-told4 .given .1) (c .refused4 .ensures)
+returns-3 c = rw (c .before .before .before .self3 .given .1) (c .refused .ensures ∙ ap refusedWith (c .before .number .ensures))
 
 pub figures-spec : {M : Type 1} → statement M
 figures-spec =
@@ -58,17 +35,9 @@ figures-spec =
     (tie.spec
     enum-known-self
     enum-known-self-2
-    enum-told
+    enum-known-self-3
+    number-requires
     refused-requires
-    enum-told-2
-    refused-requires-2
-    enum-told-3
-    refused-requires-3
-    enum-told-4
-    refused-requires-4
     returns
     returns-2
-    returns-3
-    returns-4
-    returns-5
-    returns-6)
+    returns-3)
