@@ -6,10 +6,10 @@ use native.Mathlib.Nat.{sub-self, lt-of-not-le}
 use native.Mathlib.Numerals.{add-one}
 use native.Mathlib.Omega.{arith}
 use native.Mathlib.Decide.{decLe, decLt}
+use Rattle.numbers.proofs.Search.{Least, least}
 use Rattle.cubic.specs.Cubic.{N, GasRoot, DenseRoot}
 use Rattle.cubic.specs.Sides.{plus, minus, PositiveFrom, NotPositiveTo}
 use Rattle.cubic.proofs.Shape.{to-b, above-grid}
-use Rattle.cubic.proofs.Search.{Least, least}
 use Rattle.cubic.proofs.Roots.{gas-root, dense-root}
 
 module _ (a b : ℕ) where

@@ -1,8 +1,7 @@
--- The laws that belong to no one function. Each file cites only files that are named above it.
+-- The laws about the definitions. Each file cites only files that are named above it.
 pub mod Signed
 pub mod Shape
 pub mod Lines
-pub mod Search
 pub mod Roots
 pub mod Existence
 pub mod Theorems

@@ -1,10 +1,11 @@
 -- What the two tests that spare a search show: a crossing, and that a crossing is alone. Assumes nothing.
 use mathlib.Core.Path.{_≡_}
 use Prim.Native.Nat.{ℕ, _+_, _*_, _-_, _≤_, _<_}
-use native.Mathlib.Nat.{mul-le-mul-left, mul-le-mul-right, le-of-mul-le-mul-left, add-sub-of-le}
+use native.Mathlib.Nat.{mul-le-mul-left, mul-le-mul-right, le-of-mul-le-mul-left}
 use native.Mathlib.Numerals.{add-one}
 use native.Mathlib.Omega.{arith}
 use native.Mathlib.Decide.{decLe}
+use Rattle.numbers.proofs.Squares.{twice-product}
 use Rattle.cubic.specs.Cubic.{N}
 use Rattle.cubic.specs.Sides.{plus, minus, NotPositiveTo, Crosses}
 use Rattle.cubic.proofs.Shape.{above-grid}
@@ -24,25 +25,11 @@ on-grid a b z not-positive = by-order (decLe z (N + b))
 -- A crossing G that is alone. With d = G - z, G g(z) = z g(G) - d (G z z - (N - G) G z + N a b). Where the square of N - G, times G, is at most
 -- 4 N a b, the bracket is not negative, as the square of 2 z - (N - G) is not. So g(G) not being positive makes g(z) not positive.
 
--- a square is not negative: 4 x y is at most the square of 2 x and that of y
-squares : (x y : ℕ) → 4 * (x * y) ≤ 4 * (x * x) + y * y
-squares x y = by-order (decLe (2 * x) y)
-  where
-    apart : (low k : ℕ) → 2 * (low * (low + k)) ≤ low * low + (low + k) * (low + k)
-    apart low k = omega arith
-
-    below : (2 * x ≤ y → ⊥) → y ≤ 2 * x
-    below f = omega arith
-
-    by-order : Dec (2 * x ≤ y) → 4 * (x * y) ≤ 4 * (x * x) + y * y
-    by-order (yes h) = omega (arith, rw (add-sub-of-le h) at (apart (2 * x) (y - 2 * x)))
-    by-order (no f) = omega (arith, rw (add-sub-of-le (below f)) at (apart y (2 * x - y)))
-
 module _ (a b gas sum : ℕ) (enough : N ≤ gas + sum) (small : sum * sum * gas ≤ 4 * N * a * b) where
   -- the bracket is not negative
   bracket : (z : ℕ) → N * gas * z ≤ gas * gas * z + gas * z * z + N * a * b
   bracket z =
-      omega (arith, mul-le-mul-right (gas * z) enough, mul-le-mul-left gas (squares z sum), small)
+      omega (arith, mul-le-mul-right (gas * z) enough, mul-le-mul-left gas (twice-product (2 * z) sum), small)
 
   -- the identity, over naturals
   identity : (z d : ℕ) → z + d ≡ gas → gas * minus a b z + z * plus a gas + d * (N * gas * z) ≡ gas * plus a z + z * minus a b gas + d * (gas * gas * z + gas * z * z + N * a * b)

@@ -1,7 +1,7 @@
 -- What is proved of the definitions of `specs/Cubic.antt`, for every a and every b: where g is positive, that there is one gas root and
 -- one dense root, and that no crossing goes unreported. Document 01 wants it for b of at least 1; it holds for 0 too.
--- Last, that what `solve` promises fixes its answer. Assumes nothing.
-use mathlib.Core.Path.{_≡_, refl, ap₂}
+-- Last, that two roots have one kind. Assumes nothing.
+use mathlib.Core.Path.{_≡_, refl}
 use mathlib.Core.Logic.{_⊎_, inl, inr}
 use Prim.Native.Nat.{ℕ, _+_, _≤_, _<_}
 use native.Mathlib.Nat.{le-antisymm, le-of-lt, lt-of-not-le, not-le-of-lt}
@@ -9,9 +9,6 @@ use native.Mathlib.Omega.{arith}
 use native.Mathlib.Decide.{decLe, ℕ-discrete}
 use Rattle.cubic.specs.Cubic.{N, g, Positive, Crossing, GasRoot, DenseRoot, Kind, ONE, SPLIT, IsKind}
 use Rattle.cubic.specs.Sides.{bend, PositiveFrom, NotPositiveTo}
-use Rattle.cubic.specs.Promise.{Solves}
-use Rattle.cubic.specs.declared.Solution.{Solution}
-use Rattle.cubic.specs.declared.Solution.the-variants.{Roots, OutOfBounds}
 use Rattle.cubic.proofs.Signed.{to-positive, of-positive}
 use Rattle.cubic.proofs.Shape.{to-b, above-grid}
 use Rattle.cubic.proofs.Roots.{before-positive, after-not-positive, gas-from-bend, dense-to-bend}
@@ -58,14 +55,6 @@ module _ (a b : ℕ) where
   pub crossing-on-grid : (z : ℕ) → Crossing a b z → z ≤ N + b
   unfolding PositiveFrom
   crossing-on-grid z c = omega (arith, before-positive a b {high = N + b + 1} (λ y h. above-grid a b y (omega arith)) c)
-
-  -- two answers that keep what `solve` promises are equal
-  pub solution-determined : (r s : Solution) → Solves a b r → Solves a b s → r ≡ s
-  solution-determined (Roots gas dense) (Roots gas′ dense′) p q =
-      ap₂ Roots (gas-root-unique (p .is-gas) (q .is-gas)) (dense-root-unique (p .is-dense) (q .is-dense))
-  solution-determined (Roots gas dense) OutOfBounds p q = absurd (q (p .within))
-  solution-determined OutOfBounds (Roots gas dense) p q = absurd (p (q .within))
-  solution-determined OutOfBounds OutOfBounds p q = refl
 
 -- every two roots have one kind
 pub kind-exists : (gas dense : ℕ) → (k : Kind) × IsKind gas dense k

@@ -1,9 +1,7 @@
--- What `solve` promises: the two roots of the definitions, or that a or b lies outside bounds within which 64 bits suffice.
+-- What an engine for the cubic promises: the two roots of the definitions, for a and b within bounds for which 64 bits suffice.
 -- No starting point occurs here.
 use Prim.Native.Nat.{ℕ, _≤_}
 use Rattle.cubic.specs.Cubic.{GasRoot, DenseRoot}
-use Rattle.cubic.specs.declared.Solution.{Solution}
-use Rattle.cubic.specs.declared.Solution.the-variants.{Roots, OutOfBounds}
 
 -- Every accepted state of hydrogen, oxygen and nitrogen has a up to 10969036 and b up to 954341;
 -- the bound on a leaves room for an a that is scaled by a half more.
@@ -21,7 +19,3 @@ pub record BothRoots (a b gas dense : ℕ) : Type 0 where
   pub within : Within a b
   pub is-gas : GasRoot a b gas
   pub is-dense : DenseRoot a b dense
-
-abbrev pub Solves : (a b : ℕ) → Solution → Type 0
-Solves a b (Roots gas dense) = BothRoots a b gas dense
-Solves a b OutOfBounds = Within a b → ⊥

@@ -1,7 +1,7 @@
-// Prints what `cubic::solve` answers for each point of standard input, a line "a b start", and last
+// Prints what `engine::solve` answers for each point of standard input, a line "a b start", and last
 // how many points there were. The gate holds the output to what a scan of the whole grid answers
 // (host/README.md says how to make that again).
-use cubic::Solution;
+use engine::Solution;
 use libc::STDIN_FILENO;
 use libc::STDOUT_FILENO;
 ghost use Prim.Native.Nat.{_+_, _≤_, _<_, max};
@@ -64,7 +64,7 @@ fn print_point(a: u64, b: u64, start: u64) {
     io::print_decimal(STDOUT_FILENO, b);
     io::write_all(STDOUT_FILENO, b" ");
     io::print_decimal(STDOUT_FILENO, start);
-    match cubic::solve(a, b, start) {
+    match engine::solve(a, b, start) {
         Solution::Roots { gas, dense } => print_roots(gas, dense),
         Solution::OutOfBounds => {
             io::write_all(STDOUT_FILENO, b" OUT OF BOUNDS");

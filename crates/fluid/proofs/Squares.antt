@@ -1,9 +1,10 @@
 -- Whole square roots: squares keep the order, and Newton's step never falls below the root. Assumes nothing.
 use mathlib.Core.Path.{ap}
-use Prim.Native.Nat.{ℕ, _+_, _*_, _-_, _/_, _≤_, _<_}
-use native.Mathlib.Nat.{add-sub-of-le, le-of-lt, lt-of-not-le, mul-le-mul, mul-le-mul-right, pos-of-ne-zero, lt-div-mul-add, div-lt-iff-lt-mul}
+use Prim.Native.Nat.{ℕ, _+_, _*_, _/_, _≤_, _<_}
+use native.Mathlib.Nat.{lt-of-not-le, mul-le-mul, mul-le-mul-right, pos-of-ne-zero, lt-div-mul-add, div-lt-iff-lt-mul}
 use native.Mathlib.Omega.{arith}
 use native.Mathlib.Decide.{decLe}
+use Rattle.numbers.proofs.Squares.{twice-product}
 use Rattle.fluid.specs.Reduced.{SquareRoot}
 
 -- a smaller square is that of a smaller number
@@ -17,17 +18,6 @@ root-below x y h = by-order (decLe y x)
 pub square-root : {n root : ℕ} → root * root ≤ n → n < (root + 1) * (root + 1) → SquareRoot n root
 square-root {n} {root} square next =
     record { square = square; largest = λ k at-most. omega (arith, root-below k (root + 1) (omega arith)) }
-
--- the mean of two numbers is at least the root of their product
-twice-product : (x y : ℕ) → 2 * (x * y) ≤ x * x + y * y
-twice-product x y = by-order (decLe x y)
-  where
-    apart : (x d : ℕ) → 2 * (x * (x + d)) ≤ x * x + (x + d) * (x + d)
-    apart x d = omega arith
-
-    by-order : Dec (x ≤ y) → 2 * (x * y) ≤ x * x + y * y
-    by-order (yes h) = rw add-sub-of-le at (apart x (y - x))
-    by-order (no f) = omega (arith, rw (add-sub-of-le (le-of-lt (lt-of-not-le f))) at (apart y (x - y)))
 
 -- a step from any guess but 0 leads to a number that is not below the root
 pub step-stays-above : (n guess : ℕ) → 0 < guess → n < ((guess + n / guess) / 2 + 1) * ((guess + n / guess) / 2 + 1)

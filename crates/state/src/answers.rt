@@ -6,7 +6,7 @@ ghost use Rattle.cubic.specs.Promise.{Within, BothRoots};
 ghost use Rattle.state.specs.Figures.{figuresOf};
 ghost use Rattle.state.specs.Inside.{Weighty, Reported};
 use crate::replies::Reply;
-use cubic::Solution;
+use engine::Solution;
 use fluid::Density;
 use fluid::Fluid;
 
@@ -20,7 +20,7 @@ pub(crate) fn both_roots(a: u64, b: u64, start: u64) -> Roots
     requires { ⌜ Within a b ⌝ }
     ensures { λ r. ⌜ BothRoots a b (r .gas) (r .dense) ⌝ }
 {
-    match cubic::solve(a, b, start) {
+    match engine::solve(a, b, start) {
         Solution::Roots { gas, dense } => Roots { gas, dense },
         Solution::OutOfBounds => Roots { gas: 0, dense: 0 },
     }

@@ -1,7 +1,7 @@
 // Runs what document 01 says of states under "Points worked through" and "Errors that look right", a
 // line for each. The gate holds the output to the paper's figures. What is starred there is proved of
 // the definitions as well (specs/Table.antt).
-use cubic::Solution;
+use engine::Solution;
 use fluid::Reduced;
 use fluid::Reduction;
 use libc::STDOUT_FILENO;
@@ -139,7 +139,7 @@ fn solved(a: u64, b: u64, start: u64) {
     say_number(b"a ", a);
     say_number(b", b ", b);
     say_number(b", start ", start);
-    match cubic::solve(a, b, start) {
+    match engine::solve(a, b, start) {
         Solution::OutOfBounds => say(b": out of bounds"),
         Solution::Roots { gas, dense } => {
             say_number(b": gas ", gas);

@@ -1,4 +1,4 @@
--- `state::answers::both_roots` meets its contract: it is that of `cubic::solve`, whose refusal cannot be met within bounds. Assumes nothing.
+-- `state::answers::both_roots` meets its contract: it is that of `engine::solve`, whose refusal cannot be met within bounds. Assumes nothing.
 use borrow.Author.Needs.{needs}
 use Rattle.state.proofs.answers.both_roots.Statement.{statement}
 use Rattle.state.proofs.answers.both_roots.Tie as tie

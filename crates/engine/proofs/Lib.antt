@@ -1,0 +1,2 @@
+-- What is proved of the promise beside that the code keeps it.
+pub mod Theorems

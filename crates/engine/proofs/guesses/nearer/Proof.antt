@@ -1,0 +1,89 @@
+-- `engine::guesses::nearer` meets its contract: whatever it works out, the place lies on the gas side. Assumes nothing.
+use Prim.Native.Nat.{ℕ, _*_, _-_, _≤_}
+use native.Mathlib.Nat.{mul-le-mul}
+use native.Mathlib.Omega.{arith}
+use Rattle.cubic.specs.Cubic.{N}
+use Rattle.cubic.proofs.Widths.{monomials}
+use borrow.Author.Needs.{needs}
+use Rattle.engine.proofs.guesses.nearer.Statement.{statement}
+use Rattle.engine.proofs.guesses.nearer.Tie as tie
+
+left : (b : ℕ) → N - 3 * b ≤ N
+left b = omega arith
+
+add-last : tie.Need-add-last
+add-last c = search needs
+
+returns : tie.Need-returns
+returns c = search needs
+
+add-first-order : tie.Need-add-first-order
+add-first-order c = search needs
+
+mul-first-order : tie.Need-mul-first-order
+mul-first-order c = omega (arith, monomials {z = 0} (c .before .pre) (omega arith))
+
+mul-less : tie.Need-mul-less
+mul-less c = search needs
+
+sub-less : tie.Need-sub-less
+sub-less c = search needs
+
+mul-less-2 : tie.Need-mul-less-2
+mul-less-2 c = omega (arith, mul-le-mul (c .before .pre .a-fits) (left (c .before .args .b)))
+
+returns-2 : tie.Need-returns-2
+returns-2 c = search needs
+
+sub-second-order : tie.Need-sub-second-order
+sub-second-order c = search needs
+
+mul-fallen : tie.Need-mul-fallen
+mul-fallen c = search needs
+
+mul-fallen-2 : tie.Need-mul-fallen-2
+mul-fallen-2 c = search needs
+
+add-fallen : tie.Need-add-fallen
+add-fallen c = omega (arith, monomials {z = 0} (c .before .before .pre) (omega arith))
+
+sub-fallen : tie.Need-sub-fallen
+sub-fallen c = search needs
+
+div-fallen : tie.Need-div-fallen
+div-fallen c = search needs
+
+sub-if3 : tie.Need-sub-if3
+sub-if3 c = search needs
+
+returns-3 : tie.Need-returns-3
+returns-3 c = search needs
+
+sub-result : tie.Need-sub-result
+sub-result c = search needs
+
+returns-4 : tie.Need-returns-4
+returns-4 c = search needs
+
+pub nearer-spec : {M : Type 1} → statement M
+nearer-spec =
+    tie.close
+    (tie.spec
+    add-last
+    returns
+    add-first-order
+    mul-first-order
+    mul-less
+    sub-less
+    mul-less-2
+    returns-2
+    sub-second-order
+    mul-fallen
+    mul-fallen-2
+    add-fallen
+    sub-fallen
+    div-fallen
+    sub-if3
+    returns-3
+    sub-result
+    returns-4)

@@ -1,0 +1,38 @@
+-- `engine::searches::place_at` meets its contract: g is positive at `high`, so it has room there. Assumes nothing.
+use mathlib.Core.Path.{refl}
+use Prim.Native.Nat.{_<_}
+use native.Mathlib.Omega.{arith}
+use Rattle.cubic.proofs.Falls.{positive-at}
+use borrow.Author.Needs.{needs}
+use Rattle.engine.proofs.searches.place_at.Statement.{statement}
+use Rattle.engine.proofs.searches.place_at.Tie as tie
+
+above : (c : tie.After-minus) → c .minus .result < c .before .plus .result
+above c = omega (arith, positive-at _ _ (c .before .before .before .pre .1))
+
+sub-rise : tie.Need-sub-rise
+sub-rise c = search needs
+
+rise-requires : tie.Need-rise-requires
+rise-requires c κs = search needs
+
+plus-requires : tie.Need-plus-requires
+plus-requires c κs = search needs
+
+minus-requires : tie.Need-minus-requires
+minus-requires c κs = search needs
+
+sub-room : tie.Need-sub-room
+sub-room c = omega (arith, above c)
+
+sub-room-2 : tie.Need-sub-room-2
+sub-room-2 c = omega (arith, above c)
+
+returns : tie.Need-returns
+returns c =
+    let rising = c .before .before in
+    (refl, record { is-room = omega (arith, above c); is-slope = rising .rise .ensures; begins = rising .before .pre .1 })
+
+pub place-at-spec : {M : Type 1} → statement M
+place-at-spec =
+    tie.close (tie.spec sub-rise rise-requires plus-requires minus-requires sub-room sub-room-2 returns)

@@ -1,0 +1,72 @@
+-- `engine::shortcuts::alone` meets its contract: past its tests lies what shows a crossing alone (`Spared.antt`). A crossing lies on the grid, which
+-- bounds the products. Assumes nothing.
+use mathlib.Core.Bool.{false≢true}
+use Prim.Native.Nat.{_≤_}
+use native.Mathlib.Nat.{mul-le-mul}
+use native.Mathlib.Omega.{arith}
+use Rattle.cubic.specs.Cubic.{N}
+use Rattle.cubic.specs.Sides.{plus, minus, farthest}
+use Rattle.cubic.proofs.Widths.{monomials}
+use Rattle.cubic.proofs.Spared.{on-grid, not-positive-below}
+use borrow.Author.Needs.{needs}
+use Rattle.engine.proofs.shortcuts.alone.Statement.{statement}
+use Rattle.engine.proofs.shortcuts.alone.Tie as tie
+
+-- the search from above found a crossing, which lies on the grid
+found : (c : tie.Else1) → plus (c .before .args .a) (c .before .args .gas) ≤ minus (c .before .args .a) (c .before .args .b) (c .before .args .gas)
+found c = c .before .pre .1 .found (c .if1 .left)
+
+small : (c : tie.After-left-to-grid) → c .left-to-grid .result ≤ N
+small c = omega (arith, c .left-to-grid .ensures)
+
+reach : (c : tie.After-left-to-grid) → c .before .before .args .gas ≤ farthest
+reach c = omega (arith, on-grid _ _ _ (found (c .before)), c .before .before .pre .0)
+
+returns : tie.Need-returns
+returns c said = absurd (false≢true said)
+
+left-to-grid-requires : tie.Need-left-to-grid-requires
+left-to-grid-requires c κs = search needs
+
+mul-if2 : tie.Need-mul-if2
+mul-if2 c = search needs
+
+mul-if2-2 : tie.Need-mul-if2-2
+mul-if2-2 c = search needs
+
+mul-if2-3 : tie.Need-mul-if2-3
+mul-if2-3 c = omega (arith, monomials {z = 0} (c .before .before .pre .0) (omega arith))
+
+mul-if2-4 : tie.Need-mul-if2-4
+mul-if2-4 c = omega (arith, mul-le-mul (small c) (small c))
+
+mul-if2-5 : tie.Need-mul-if2-5
+mul-if2-5 c = omega (arith, mul-le-mul (mul-le-mul (small c) (small c)) (reach c))
+
+returns-2 : tie.Need-returns-2
+returns-2 c said = absurd (false≢true said)
+
+returns-3 : tie.Need-returns-3
+returns-3 c said =
+    let summed = c .before in
+    let start = summed .before .before in
+    record {
+      from-bend = summed .before .if1 .left;
+      not-positive =
+          not-positive-below (start .args .a) (start .args .b) (start .args .gas) (summed .left-to-grid .result)
+          (omega (arith, summed .left-to-grid .ensures)) (omega arith) (omega arith) (found (summed .before));
+    }
+
+pub alone-spec : {M : Type 1} → statement M
+alone-spec =
+    tie.close
+    (tie.spec
+    returns
+    left-to-grid-requires
+    mul-if2
+    mul-if2-2
+    mul-if2-3
+    mul-if2-4
+    mul-if2-5
+    returns-2
+    returns-3)
