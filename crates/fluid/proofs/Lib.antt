@@ -1,8 +1,5 @@
 -- The laws that belong to no one function. Each file cites only files that are named above it.
 pub mod Fluids
 pub mod Accepting
-pub mod Quotients
-pub mod Squares
 pub mod Ranges
-pub mod Parts
 pub mod Theorems

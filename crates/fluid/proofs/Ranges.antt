@@ -6,9 +6,9 @@ use native.Mathlib.Omega.{arith}
 use Rattle.fluid.specs.declared.choice.Fluid.{Fluid}
 use Rattle.fluid.specs.declared.choice.Fluid.the-variants.{Hydrogen, Oxygen}
 use Rattle.fluid.specs.Figures.{lowered, criticalMillikelvin, criticalPascals, coldest, hottest, lowest, highest, Accepted}
-use Rattle.fluid.specs.Reduced.{SquareRoot}
-use Rattle.fluid.proofs.Quotients.{quotient-from, quotient-grows}
-use Rattle.fluid.proofs.Squares.{root-below}
+use Rattle.squares.specs.SquareRoot.{SquareRoot}
+use Rattle.numbers.proofs.Quotients.{quotient-from, quotient-grows}
+use Rattle.squares.proofs.Squares.{root-below}
 
 -- ends for t, s and p, and that the a and b they come to are within bounds
 pub record Ends (least-t least-s greatest-p : ℕ) : Type 0 where

@@ -2,7 +2,6 @@
 -- factor is the molar mass over the gas constant, and that each promise fixes its answer. Assumes nothing.
 use mathlib.Core.Path.{_≡_, refl, sym, ap, ap₂, _∙_}
 use Prim.Native.Nat.{ℕ, _*_, _≤_, _<_}
-use native.Mathlib.Nat.{le-antisymm}
 use native.Mathlib.Omega.{arith}
 use Rattle.fluid.specs.declared.choice.Fluid.{Fluid}
 use Rattle.fluid.specs.declared.choice.Fluid.the-variants.{Hydrogen, Oxygen}
@@ -11,12 +10,11 @@ use Rattle.fluid.specs.declared.choice.Numbered.the-variants as Numbered
 use Rattle.fluid.specs.declared.coefficients.Reduced.{Reduced}
 use Rattle.fluid.specs.declared.coefficients.Reduction.{Reduction}
 use Rattle.fluid.specs.declared.coefficients.Reduction.the-variants as Reduction
-use Rattle.fluid.specs.declared.densities.Density.{Density}
-use Rattle.fluid.specs.declared.densities.Density.the-variants.{GramsPerCubicMetre, OutOfBounds}
 use Rattle.fluid.specs.Figures.{molarMass, densityFactor, Accepted}
-use Rattle.fluid.specs.Reduced.{SquareRoot, Reduces}
+use Rattle.squares.proofs.Theorems.{square-root-determined}
+use Rattle.fluid.specs.Reduced.{Reduces}
 use Rattle.fluid.specs.Checks.{fluidChecks, stateChecks}
-use Rattle.fluid.specs.Promise.{numbered, Numbers, Reached, reduction, Reaches, ReducesTo, Weighs}
+use Rattle.fluid.specs.Promise.{numbered, Numbers, Reached, reduction, Reaches, ReducesTo}
 use Rattle.refusals.specs.Checks.{Outcome, with-value, with-number}
 use Rattle.refusals.proofs.Theorems.{gives-once, refusalOf, refusal-of-number}
 use Rattle.fluid.proofs.Fluids.{number-determines-fluid}
@@ -26,6 +24,10 @@ use Rattle.fluid.proofs.Ranges.{Bounds, spanned, bounds}
 pub factor-is-molar-mass : (fluid : Fluid) → 2 * densityFactor fluid ≡ molarMass fluid * 1000000
 factor-is-molar-mass Hydrogen = refl
 factor-is-molar-mass Oxygen = refl
+
+-- two answers that keep what `density_factor` promises are equal
+pub factor-determined : (fluid : Fluid) {r s : ℕ} → r ≡ densityFactor fluid → s ≡ densityFactor fluid → r ≡ s
+factor-determined fluid p q = p ∙ sym q
 
 pub some-temperature : {fluid : Fluid} {millikelvin pascals : ℕ} → Accepted fluid millikelvin pascals → 0 < millikelvin
 some-temperature {fluid = Hydrogen} accepted = omega arith
@@ -45,9 +47,6 @@ module _ {fluid : Fluid} {millikelvin pascals : ℕ} {reduced : Reduced} (accept
   pub b-at-most : reduced .b ≤ 1000000
   b-at-most = omega (arith, within)
 
-pub square-root-unique : {n r s : ℕ} → SquareRoot n r → SquareRoot n s → r ≡ s
-square-root-unique {r = r} {s} p q = le-antisymm (q .largest r (p .square)) (p .largest s (q .square))
-
 made : (t p s a b : ℕ) → Reduced
 made t p s a b = record { t = t; p = p; s = s; a = a; b = b }
 
@@ -57,20 +56,13 @@ module _ (fluid : Fluid) (millikelvin pascals : ℕ) where
   reduced-determined r s p q =
       let same-t : r .t ≡ s .t = p .is-t ∙ sym (q .is-t) in
       let same-p : r .p ≡ s .p = p .is-p ∙ sym (q .is-p) in
-      let same-s : r .s ≡ s .s = square-root-unique (rw same-t at (p .is-s)) (q .is-s) in
+      let same-s : r .s ≡ s .s = square-root-determined (rw same-t at (p .is-s)) (q .is-s) in
       let same-a : r .a ≡ s .a = cc in
       let same-b : r .b ≡ s .b = cc in
       let fields : made (r .t) (r .p) (r .s) (r .a) (r .b) ≡ made (s .t) (s .p) (s .s) (s .a) (s .b) = cc in
       fields
 
-  -- two answers that keep what `density_of` promises are equal
-  pub density-determined : (root : ℕ) (r s : Density) → Weighs fluid millikelvin pascals root r → Weighs fluid millikelvin pascals root s → r ≡ s
-  density-determined root (GramsPerCubicMetre x) (GramsPerCubicMetre y) p q = ap GramsPerCubicMetre (p .is-density ∙ sym (q .is-density))
-  density-determined root (GramsPerCubicMetre x) OutOfBounds p q = absurd (q (p .weighable))
-  density-determined root OutOfBounds (GramsPerCubicMetre y) p q = absurd (p (q .weighable))
-  density-determined root OutOfBounds OutOfBounds p q = refl
-
--- and two that keep what `of_number` promises
+-- two answers that keep what `of_number` promises are equal
 numberedOf : Outcome Fluid → Numbered
 numberedOf (with-value fluid) = Numbered.Fluid fluid
 numberedOf (with-number refusal) = Numbered.Refused (refusalOf refusal)

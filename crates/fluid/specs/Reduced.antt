@@ -1,14 +1,10 @@
 -- Document 01, "From a state to the cubic": t, p, s, a and b, in its words and its order.
 use mathlib.Core.Path.{_≡_}
-use Prim.Native.Nat.{ℕ, _*_, _/_, _≤_}
+use Prim.Native.Nat.{ℕ, _*_, _/_}
+use Rattle.squares.specs.SquareRoot.{SquareRoot}
 use Rattle.fluid.specs.declared.choice.Fluid.{Fluid}
 use Rattle.fluid.specs.declared.coefficients.Reduced.{Reduced}
 use Rattle.fluid.specs.Figures.{criticalMillikelvin, criticalPascals}
-
--- the largest whole number whose square is at most n
-pub record SquareRoot (n root : ℕ) : Type 0 where
-  pub square : root * root ≤ n
-  pub largest : (k : ℕ) → k * k ≤ n → k ≤ root
 
 pub record Reduces (fluid : Fluid) (millikelvin pascals : ℕ) (r : Reduced) : Type 0 where
   pub is-t : r .t ≡ 10000 * millikelvin / criticalMillikelvin fluid millikelvin

@@ -2,7 +2,7 @@
 // case in this file.
 ghost use mathlib.Core.Path.{_≡_};
 ghost use Prim.Native.Nat.{_≤_};
-ghost use Rattle.fluid.specs.Figures.{hottest};
+ghost use Rattle.fluid.specs.Figures.{hottest, densityFactor};
 ghost use Rattle.fluid.specs.Inside.{figuresOf};
 ghost use Rattle.fluid.specs.Promise.{numbered, Numbers};
 use crate::hydrogen::Hydrogen;
@@ -19,12 +19,11 @@ pub enum Numbered {
     Refused(Refusal),
 }
 
-// What a fluid brings to the cubic and to a density.
+// What a fluid brings to the cubic.
 pub(crate) struct Figures {
     pub coldest_millikelvin: u64,
     pub critical_millikelvin: u64,
     pub critical_pascals: u64,
-    pub density_factor: u64,
 }
 
 // The fluid that document 01 numbers so.
@@ -47,5 +46,15 @@ pub(crate) fn figures_at(fluid: Fluid, millikelvin: u64) -> Figures
     match fluid {
         Fluid::Hydrogen => Hydrogen::figures_at(millikelvin),
         Fluid::Oxygen => Oxygen::figures(),
+    }
+}
+
+// What a density has above the fraction bar, but for the pressure.
+pub fn density_factor(fluid: Fluid) -> u64
+    ensures { λ r. ⌜ r ≡ densityFactor fluid ⌝ }
+{
+    match fluid {
+        Fluid::Hydrogen => Hydrogen::DENSITY_FACTOR,
+        Fluid::Oxygen => Oxygen::DENSITY_FACTOR,
     }
 }

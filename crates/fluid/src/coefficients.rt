@@ -5,15 +5,15 @@ use crate::choice::Fluid;
 use crate::choice::Numbered;
 use crate::choice::figures_at;
 use crate::choice::of_number;
-use crate::root::square_root;
 use refusals::Refusal;
+use squares::square_root;
 
 // The ends that all fluids share.
-pub(crate) const HOTTEST_MILLIKELVIN: u64 = 1_000_000;
+const HOTTEST_MILLIKELVIN: u64 = 1_000_000;
 
 const LOWEST_PASCALS: u64 = 10_000;
 
-pub(crate) const HIGHEST_PASCALS: u64 = 50_000_000;
+const HIGHEST_PASCALS: u64 = 50_000_000;
 
 // 0.42748 and 0.08664, times the units of t, p, s and of the hundred-thousandths of a and b.
 const FACTOR_OF_A: u64 = 42_748_000_000;
@@ -55,16 +55,12 @@ fn reduce_fluid(fluid: Fluid, millikelvin: u64, pascals: u64) -> Reduction
     }
     let t = 10_000 * millikelvin / figures.critical_millikelvin;
     let p = 1_000_000 * pascals / figures.critical_pascals;
-    let s = square_root(10_000 * t);
+    let s = square_root((10_000 * t) as u32);
+    let a = FACTOR_OF_A * p / (t * t * s);
+    let b = FACTOR_OF_B * p / (100 * t);
     Reduction::To {
         fluid,
-        reduced: Reduced {
-            t,
-            p,
-            s,
-            a: FACTOR_OF_A * p / (t * t * s),
-            b: FACTOR_OF_B * p / (100 * t),
-        },
+        reduced: Reduced { t, p, s, a, b },
     }
 }
 

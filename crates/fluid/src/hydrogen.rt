@@ -68,7 +68,6 @@ impl Hydrogen {
             coldest_millikelvin: Self::COLDEST_MILLIKELVIN,
             critical_millikelvin: Self::critical_millikelvin(millikelvin),
             critical_pascals: Self::critical_pascals(millikelvin),
-            density_factor: Self::DENSITY_FACTOR,
         }
     }
 }

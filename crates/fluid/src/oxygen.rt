@@ -27,7 +27,6 @@ impl Oxygen {
             coldest_millikelvin: Self::COLDEST_MILLIKELVIN,
             critical_millikelvin: Self::CRITICAL_MILLIKELVIN,
             critical_pascals: Self::CRITICAL_PASCALS,
-            density_factor: Self::DENSITY_FACTOR,
         }
     }
 }

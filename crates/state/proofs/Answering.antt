@@ -15,11 +15,11 @@ use Rattle.fluid.specs.declared.coefficients.Reduced.{Reduced}
 use Rattle.fluid.specs.Figures.{Accepted}
 use Rattle.fluid.specs.Checks.{stateChecks}
 use Rattle.fluid.specs.Reduced.{Reduces}
-use Rattle.fluid.specs.Promise.{Weighable}
+use Rattle.densities.specs.Promise.{Weighable}
 use Rattle.fluid.proofs.Accepting.{accepts}
 use Rattle.fluid.proofs.Theorems.{some-temperature, a-at-most, b-at-least-one, b-at-most}
-use Rattle.state.specs.declared.replies.Figures.{Figures}
-use Rattle.state.specs.Figures.{numberOfKind, refusedWith}
+use Rattle.replies.specs.declared.Figures.{Figures}
+use Rattle.replies.specs.Figures.{numberOfKind, refusedWith}
 use Rattle.state.specs.Replies.{Answered}
 use Rattle.state.specs.Book.{slotChecks, Placed, ifKind, bookAfter, Called}
 use Rattle.state.specs.Inside.{Found, Weighty, Reported}

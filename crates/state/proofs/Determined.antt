@@ -1,18 +1,13 @@
--- What two calls tell of one state is the same, and figures have one reply. `Theorems.antt` draws on it. Assumes nothing.
-use mathlib.Core.Path.{_≡_, refl, sym, ap, _∙_}
+-- What two calls tell of one state is the same. `Theorems.antt` draws on it. Assumes nothing.
+use mathlib.Core.Path.{_≡_, sym, _∙_}
 use mathlib.Core.List.{List}
-use Prim.Native.Nat.{ℕ, zero, suc}
+use Prim.Native.Nat.{ℕ}
 use Rattle.refusals.specs.Checks.{Check, Tells}
-use Rattle.refusals.proofs.Theorems.{tells-once, refusalOf, refusal-of-number}
+use Rattle.refusals.proofs.Theorems.{tells-once}
 use Rattle.cubic.proofs.Theorems.{gas-root-unique, dense-root-unique, kind-determined}
-use Rattle.fluid.specs.declared.choice.Fluid.{Fluid}
-use Rattle.fluid.specs.Densities.{density}
 use Rattle.fluid.proofs.Fluids.{number-determines-fluid}
 use Rattle.fluid.proofs.Theorems.{reduced-determined}
-use Rattle.state.specs.declared.replies.Reply.{Reply}
-use Rattle.state.specs.declared.replies.Reply.the-variants.{One, Split, Refused}
-use Rattle.state.specs.declared.replies.Figures.{Figures}
-use Rattle.state.specs.Figures.{answeredWith, figuresOf}
+use Rattle.replies.specs.declared.Figures.{Figures}
 use Rattle.state.specs.Replies.{NumberAndZeros, Answered}
 
 module _ (number millikelvin pascals : ℕ) where
@@ -28,21 +23,3 @@ module _ (number millikelvin pascals : ℕ) where
   -- whatever the list of checks is
   pub told-once : (checks : List Check) (f g : Figures) → Tells checks NumberAndZeros (Answered number millikelvin pascals) f → Tells checks NumberAndZeros (Answered number millikelvin pascals) g → f ≡ g
   told-once checks = tells-once checks (λ refusal f g p q. p ∙ sym q) answered-once
-
--- the way back from figures to their reply
-ofKind : (kind : ℕ) → Figures → Reply
-ofKind zero figures = Refused (refusalOf (figures .number))
-ofKind (suc zero) figures = One (figures .«gas_root») (figures .«gas_density»)
-ofKind (suc (suc kind)) figures = Split (figures .«gas_root») (figures .«dense_root») (figures .«gas_density») (figures .«dense_density»)
-
-replyOf : Figures → Reply
-replyOf figures = ofKind (figures .kind) figures
-
-reply-back : (reply : Reply) → replyOf (figuresOf reply) ≡ reply
-unfolding replyOf ofKind
-reply-back (One root density) = refl
-reply-back (Split gas dense gas-density dense-density) = refl
-reply-back (Refused refusal) = ap Refused (refusal-of-number refusal)
-
-pub figures-determine-reply : (r s : Reply) → figuresOf r ≡ figuresOf s → r ≡ s
-figures-determine-reply r s same = sym (reply-back r) ∙ ap replyOf same ∙ reply-back s

@@ -18,14 +18,14 @@ use Rattle.fluid.specs.Reduced.{Reduces}
 use Rattle.fluid.proofs.Accepting.{passes}
 use Rattle.fluid.proofs.Fluids.{number-determines-fluid}
 use Rattle.fluid.proofs.Theorems.{reduced-determined}
-use Rattle.state.specs.declared.replies.Reply.{Reply}
-use Rattle.state.specs.declared.replies.Reply.the-variants.{One, Split, Refused}
-use Rattle.state.specs.declared.replies.Figures.{Figures}
-use Rattle.state.specs.Figures.{refusedWith, figuresOf}
+use Rattle.replies.specs.declared.Reply.{Reply}
+use Rattle.replies.specs.declared.Figures.{Figures}
+use Rattle.replies.specs.Figures.{figuresOf}
+use Rattle.replies.proofs.Theorems.{figures-determine-reply}
 use Rattle.state.specs.Replies.{Answered, Replies}
 use Rattle.state.specs.Book.{slotChecks, Placed, RepliesWithBook, ifKind, bookAfter, Called, Asked, without-book, with-book}
 use Rattle.state.specs.Shared.{Call, Gets, Shared, Alone}
-use Rattle.state.proofs.Determined.{told-once, figures-determine-reply}
+use Rattle.state.proofs.Determined.{told-once}
 
 -- Every accepted state is answered, and the two roots reported are all the crossings there are, whatever a book holds.
 module _ {fluid : Fluid} {millikelvin pascals : ℕ} {reduced : Reduced} {figures : Figures} (accepted : Accepted fluid millikelvin pascals) (reduces : Reduces fluid millikelvin pascals reduced) (asked : Asked (numberOf fluid) millikelvin pascals figures) where
@@ -131,13 +131,3 @@ module _ (book : List ℕ) (calls : List Call) (replies : List Reply) (shared : 
   -- and the only one: two customers who share a slot get what each would get alone.
   pub shared-slot-as-alone : (others : List Reply) → Alone (replicate (length book) 0) calls others → replies ≡ others
   shared-slot-as-alone others = alone-determined _ calls replies others shared-slot-gets-alone
-
--- two readings of a reply that keep what `figures` promises are equal
-pub figures-determined : (reply : Reply) {f g : Figures} → f ≡ figuresOf reply → g ≡ figuresOf reply → f ≡ g
-figures-determined reply p q = p ∙ sym q
-
--- a refused reply carries its number and zeros
-pub refused-carries-zeros : (reply : Reply) → (figuresOf reply .number ≡ 0 → ⊥) → figuresOf reply ≡ refusedWith (figuresOf reply .number)
-refused-carries-zeros (One root grams) refused = absurd (refused refl)
-refused-carries-zeros (Split gas dense gas-density dense-density) refused = absurd (refused refl)
-refused-carries-zeros (Refused refusal) refused = refl

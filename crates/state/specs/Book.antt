@@ -7,7 +7,7 @@ use Prim.Native.Nat.{ℕ, zero, suc, _<_}
 use lib.ListN.{length, set}
 use Rattle.refusals.specs.Checks.{Check, _if_, NoneOf, Tells}
 use Rattle.fluid.specs.Checks.{stateChecks}
-use Rattle.state.specs.declared.replies.Figures.{Figures}
+use Rattle.replies.specs.declared.Figures.{Figures}
 use Rattle.state.specs.Replies.{NumberAndZeros, Answered, Replies}
 
 abbrev pub slotChecks : (slot length : ℕ) → List Check

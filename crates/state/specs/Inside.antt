@@ -10,12 +10,12 @@ use Rattle.fluid.specs.declared.coefficients.Reduced.{Reduced}
 use Rattle.fluid.specs.Figures.{numberOf}
 use Rattle.fluid.specs.Checks.{stateChecks}
 use Rattle.fluid.specs.Reduced.{Reduces}
-use Rattle.fluid.specs.Densities.{density}
-use Rattle.fluid.specs.Promise.{Weighable}
+use Rattle.densities.specs.Densities.{density}
+use Rattle.densities.specs.Promise.{Weighable}
 use Rattle.state.specs.declared.searches.Searched.{Searched}
 use Rattle.state.specs.declared.searches.Searched.the-variants as Searched
-use Rattle.state.specs.declared.replies.Figures.{Figures}
-use Rattle.state.specs.Figures.{answeredWith}
+use Rattle.replies.specs.declared.Figures.{Figures}
+use Rattle.replies.specs.Figures.{answeredWith}
 
 -- a state to which no check applies, its fluid and its two roots
 pub record Found (number millikelvin pascals : ℕ) (fluid : Fluid) (gas dense : ℕ) : Type 0 where

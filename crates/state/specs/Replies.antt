@@ -9,9 +9,9 @@ use Rattle.fluid.specs.declared.coefficients.Reduced.{Reduced}
 use Rattle.fluid.specs.Figures.{numberOf}
 use Rattle.fluid.specs.Checks.{stateChecks}
 use Rattle.fluid.specs.Reduced.{Reduces}
-use Rattle.fluid.specs.Densities.{density}
-use Rattle.state.specs.declared.replies.Figures.{Figures}
-use Rattle.state.specs.Figures.{answeredWith, refusedWith}
+use Rattle.densities.specs.Densities.{density}
+use Rattle.replies.specs.declared.Figures.{Figures}
+use Rattle.replies.specs.Figures.{answeredWith, refusedWith}
 
 abbrev pub NumberAndZeros : (refusal : ℕ) → Figures → Type 0
 NumberAndZeros refusal figures = figures ≡ refusedWith refusal

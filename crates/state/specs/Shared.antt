@@ -1,8 +1,8 @@
 -- Calls made one after another on one book, and the same calls made each alone.
 use mathlib.Core.List.{List, [], _∷_}
 use Prim.Native.Nat.{ℕ}
-use Rattle.state.specs.declared.replies.Reply.{Reply}
-use Rattle.state.specs.Figures.{figuresOf}
+use Rattle.replies.specs.declared.Reply.{Reply}
+use Rattle.replies.specs.Figures.{figuresOf}
 use Rattle.state.specs.Book.{Called}
 
 pub record Call : Type 0 where

@@ -1,14 +1,14 @@
 // The answer to an accepted state: its two roots, and a density for each.
 ghost use mathlib.Core.Path.{_≡_};
-ghost use Rattle.fluid.specs.Promise.{Weighable};
-ghost use Rattle.fluid.specs.Densities.{density};
+ghost use Rattle.densities.specs.Promise.{Weighable};
+ghost use Rattle.densities.specs.Densities.{density};
 ghost use Rattle.cubic.specs.Promise.{Within, BothRoots};
-ghost use Rattle.state.specs.Figures.{figuresOf};
+ghost use Rattle.replies.specs.Figures.{figuresOf};
 ghost use Rattle.state.specs.Inside.{Weighty, Reported};
-use crate::replies::Reply;
+use densities::Density;
 use engine::Solution;
-use fluid::Density;
 use fluid::Fluid;
+use replies::Reply;
 
 pub(crate) struct Roots {
     pub gas: u64,
@@ -31,7 +31,7 @@ fn grams(fluid: Fluid, millikelvin: u64, pascals: u64, root: u64) -> u64
     requires { ⌜ Weighable millikelvin pascals root ⌝ }
     ensures { λ r. ⌜ r ≡ density fluid millikelvin pascals root ⌝ }
 {
-    match fluid::density_of(fluid, millikelvin, pascals, root) {
+    match densities::density_of(fluid, millikelvin, pascals, root) {
         Density::GramsPerCubicMetre(grams) => grams,
         Density::OutOfBounds => 0,
     }

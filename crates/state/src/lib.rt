@@ -1,11 +1,10 @@
 // The reply to a state (document 01): a fluid's number, a temperature in millikelvin and a pressure in
 // pascals, each any 64-bit number at all, with a book of starting points or without one.
 mod answers;
-mod replies;
 mod searches;
 
 ghost use Rattle.state.specs.Book.{Called};
-ghost use Rattle.state.specs.Figures.{figuresOf};
+ghost use Rattle.replies.specs.Figures.{figuresOf};
 ghost use Rattle.state.specs.Replies.{Replies};
 use crate::answers::answer;
 use crate::searches::Searched;

@@ -5,9 +5,10 @@ use mathlib.Core.List.{List, _∷_, []}
 use Prim.Native.Nat.{ℕ}
 use lib.Ieee.{Float}
 use lib.ListN.{length}
-use Rattle.state.specs.declared.replies.Reply.{Reply}
-use Rattle.state.specs.Figures.{figuresOf}
+use Rattle.replies.specs.declared.Reply.{Reply}
+use Rattle.replies.specs.Figures.{figuresOf}
 use Rattle.state.specs.Book.{Placed}
+use Rattle.replies.proofs.Theorems.{refused-carries-zeros}
 use Rattle.state.proofs.Theorems as state
 use Rattle.heat.specs.Replies.{numberOf}
 use Rattle.heat.proofs.Theorems as heat
@@ -54,7 +55,7 @@ module _ (fluid millikelvin pascals : ℕ) where
 -- a refused state's figures are zeros, and its book is as it was
 pub refused-lays-zeros : {reply : Reply} {number : ℕ} {figures : List ℕ} → Laid reply number figures → (number ≡ 0 → ⊥) → figures ≡ 0 ∷ 0 ∷ 0 ∷ 0 ∷ 0 ∷ []
 refused-lays-zeros {reply} laid refused =
-    laid .is-figures ∙ ap fiveOf (state.refused-carries-zeros reply (λ answered. refused (laid .is-number ∙ answered)))
+    laid .is-figures ∙ ap fiveOf (refused-carries-zeros reply (λ answered. refused (laid .is-number ∙ answered)))
 
 pub refused-changes-no-book : {fluid millikelvin pascals slot number : ℕ} {book figures after : List ℕ} → BookAnswers fluid millikelvin pascals slot book number figures after → (number ≡ 0 → ⊥) → after ≡ book
 refused-changes-no-book p refused =

@@ -11,13 +11,14 @@ use Rattle.fluid.specs.declared.choice.Fluid.{Fluid}
 use Rattle.fluid.specs.declared.coefficients.Reduced.{Reduced}
 use Rattle.fluid.specs.Figures.{numberOf, Accepted}
 use Rattle.fluid.specs.Checks.{stateChecks}
-use Rattle.fluid.specs.Reduced.{SquareRoot, Reduces}
+use Rattle.squares.specs.SquareRoot.{SquareRoot}
+use Rattle.fluid.specs.Reduced.{Reduces}
 use Rattle.fluid.proofs.Accepting.{passes}
-use Rattle.fluid.proofs.Squares.{square-root}
-use Rattle.state.specs.declared.replies.Reply.{Reply}
-use Rattle.state.specs.declared.replies.Reply.the-variants.{One, Split, Refused}
-use Rattle.state.specs.declared.replies.Figures.{Figures}
-use Rattle.state.specs.Figures.{answeredWith, figuresOf}
+use Rattle.squares.proofs.Squares.{square-root}
+use Rattle.replies.specs.declared.Reply.{Reply}
+use Rattle.replies.specs.declared.Reply.the-variants.{One, Split, Refused}
+use Rattle.replies.specs.declared.Figures.{Figures}
+use Rattle.replies.specs.Figures.{answeredWith, figuresOf}
 use Rattle.state.specs.Replies.{Answered}
 use Rattle.state.specs.Book.{slotChecks, Placed}
 use Rattle.worked.specs.Rows.{Span, ForEach, Replied, RightAnswer}

@@ -9,7 +9,7 @@ use Rattle.fluid.specs.declared.choice.Fluid.the-variants.{Hydrogen, Oxygen}
 use Rattle.fluid.specs.Figures.{numberOf, coldest, hottest, lowest, highest, Accepted}
 use Rattle.fluid.specs.Checks.{stateChecks}
 use Rattle.fluid.proofs.Accepting.{no-fluid, unknown-fluid, wrong-temperature, wrong-pressure, passes}
-use Rattle.state.specs.Figures.{refusedWith}
+use Rattle.replies.specs.Figures.{refusedWith}
 use Rattle.state.specs.Book.{slotChecks}
 use Rattle.worked.specs.Rows.{Span, ForEach, Replied, RightRefusal}
 use Rattle.worked.proofs.Tests.{Tested, by, _with_, _or_, equal, differ, at-most, below}

@@ -6,7 +6,7 @@ use lib.Dec.{T}
 use Rattle.cubic.specs.Cubic.{g, polynomial}
 use Rattle.cubic.specs.Sides.{plus, minus, plusStep, minusStep, rise}
 use Rattle.fluid.specs.Figures.{lowered}
-use Rattle.fluid.specs.Densities.{density}
+use Rattle.densities.specs.Densities.{density}
 use Rattle.worked.specs.Rows.{Row, answered, value, refused, Right, Every, none, next}
 use Rattle.worked.specs.Table.{table}
 use Rattle.worked.proofs.Tests.{Tested, apply}

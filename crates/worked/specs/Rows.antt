@@ -8,9 +8,9 @@ use Rattle.fluid.specs.declared.choice.Fluid.{Fluid}
 use Rattle.fluid.specs.declared.coefficients.Reduced.{Reduced}
 use Rattle.fluid.specs.Figures.{numberOf, criticalMillikelvin, criticalPascals}
 use Rattle.fluid.specs.Reduced.{Reduces}
-use Rattle.state.specs.declared.replies.Reply.{Reply}
-use Rattle.state.specs.declared.replies.Figures.{Figures}
-use Rattle.state.specs.Figures.{refusedWith, figuresOf}
+use Rattle.replies.specs.declared.Reply.{Reply}
+use Rattle.replies.specs.declared.Figures.{Figures}
+use Rattle.replies.specs.Figures.{refusedWith, figuresOf}
 use Rattle.state.specs.Book.{RepliesWithBook}
 
 -- the pressures, or the slots, of which a row speaks

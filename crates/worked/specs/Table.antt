@@ -4,7 +4,7 @@
 use mathlib.Core.List.{List, [], _∷_}
 use lib.IntN.{pos, negℤ}
 use Rattle.fluid.specs.declared.choice.Fluid.the-variants.{Hydrogen, Oxygen}
-use Rattle.state.specs.declared.replies.Reply.the-variants.{One, Split}
+use Rattle.replies.specs.declared.Reply.the-variants.{One, Split}
 use Rattle.worked.specs.Rows.{Row, answered, value, refused, only, up-to, all}
 
 unfoldable pub table : List Row

@@ -59,29 +59,32 @@ div-p c = omega (arith, known (c .before .before))
 mul-square-root : tie.Need-mul-square-root
 mul-square-root c = omega (arith, known (c .before .before))
 
+cast-square-root : tie.Need-cast-square-root
+cast-square-root c = omega (arith, known (c .before .before))
+
 square-root-requires : tie.Need-square-root-requires
-square-root-requires c κs = omega (arith, known (c .before .before))
+square-root-requires c κs = tt
 
-mul-t14 : tie.Need-mul-t14
-mul-t14 c = omega (arith, found c)
+mul-a : tie.Need-mul-a
+mul-a c = omega (arith, found c)
 
-mul-t15 : tie.Need-mul-t15
-mul-t15 c = omega (arith, found c)
+mul-a-2 : tie.Need-mul-a-2
+mul-a-2 c = omega (arith, found c)
 
-mul-t16 : tie.Need-mul-t16
-mul-t16 c = omega (arith, found c)
+mul-a-3 : tie.Need-mul-a-3
+mul-a-3 c = omega (arith, found c)
 
-div-t17 : tie.Need-div-t17
-div-t17 c = omega (arith, found c)
+div-a : tie.Need-div-a
+div-a c = omega (arith, found c)
 
-mul-t18 : tie.Need-mul-t18
-mul-t18 c = omega (arith, found c)
+mul-b : tie.Need-mul-b
+mul-b c = omega (arith, found c)
 
-mul-t19 : tie.Need-mul-t19
-mul-t19 c = omega (arith, found c)
+mul-b-2 : tie.Need-mul-b-2
+mul-b-2 c = omega (arith, found c)
 
-div-t20 : tie.Need-div-t20
-div-t20 c = omega (arith, found c)
+div-b : tie.Need-div-b
+div-b c = omega (arith, found c)
 
 returns-5 : tie.Need-returns-5
 returns-5 c =
@@ -115,12 +118,13 @@ reduce-fluid-spec =
     mul-p
     div-p
     mul-square-root
+    cast-square-root
     square-root-requires
-    mul-t14
-    mul-t15
-    mul-t16
-    div-t17
-    mul-t18
-    mul-t19
-    div-t20
+    mul-a
+    mul-a-2
+    mul-a-3
+    div-a
+    mul-b
+    mul-b-2
+    div-b
     returns-5)

@@ -1,4 +1,4 @@
--- `state::answers::grams` meets its contract: it is that of `fluid::density_of`, whose refusal cannot be met within bounds. Assumes nothing.
+-- `state::answers::grams` meets its contract: it is that of `densities::density_of`, whose refusal cannot be met within bounds. Assumes nothing.
 use borrow.Author.Needs.{needs}
 use Rattle.state.proofs.answers.grams.Statement.{statement}
 use Rattle.state.proofs.answers.grams.Tie as tie

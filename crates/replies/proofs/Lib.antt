@@ -1,0 +1,2 @@
+-- What is proved of replies.
+pub mod Theorems
