@@ -1,8 +1,11 @@
 -- An accepted state is one to which no check applies, and what is found out of range is the first check that applies. Assumes nothing.
 use mathlib.Core.Path.{_≡_, refl, sym, subst, _∙_}
 use mathlib.Core.Logic.{_⊎_, inl, inr, ⊎-elim}
-use Prim.Native.Nat.{ℕ, _≤_, _<_}
+use Prim.Native.Nat.{ℕ, zero, suc, _≤_, _<_}
 use native.Mathlib.Omega.{arith}
+use native.Mathlib.Decide.{decLt}
+use Rattle.refusals.specs.declared.Refusal.the-variants.{NoSuchFluid, TemperatureOutOfRange, PressureOutOfRange}
+use Rattle.refusals.proofs.Theorems.{EachDecided}
 use Rattle.refusals.specs.Checks.{NoneOf, FirstOf}
 use Rattle.fluid.specs.declared.choice.Fluid.{Fluid}
 use Rattle.fluid.specs.declared.choice.Fluid.the-variants.{Hydrogen, Oxygen}
@@ -47,3 +50,35 @@ module _ {number : ℕ} (fluid : Fluid) (is-number : number ≡ numberOf fluid) 
       let low : pascals < lowest → ⊥ = λ out. none .1 .1 .0 (inl out) in
       let high : highest < pascals → ⊥ = λ out. none .1 .1 .0 (inr out) in
       record { from-coldest = omega arith; to-hottest = omega arith; from-lowest = omega arith; to-highest = omega arith }
+
+-- each check can be decided
+pub either : {A B : Type 0} → Dec A → Dec B → Dec (A ⊎ B)
+either (yes a) b = yes (inl a)
+either (no f) (yes b) = yes (inr b)
+either (no f) (no g) = no (⊎-elim f g)
+
+pub fluid-or-none : (number : ℕ) → ((fluid : Fluid) × (number ≡ numberOf fluid)) ⊎ ((fluid : Fluid) → number ≡ numberOf fluid → ⊥)
+fluid-or-none zero = inl (Hydrogen, refl)
+fluid-or-none (suc zero) = inl (Oxygen, refl)
+fluid-or-none (suc (suc number)) = inr (no-fluid (λ same. omega arith) (λ same. omega arith))
+
+pub state-decided : (number millikelvin pascals : ℕ) → EachDecided (stateChecks number millikelvin pascals)
+state-decided number millikelvin pascals = (
+  record { refusal = NoSuchFluid; is-number = refl; decide = unknown (fluid-or-none number) },
+  (
+    record { refusal = TemperatureOutOfRange; is-number = refl; decide = temperature (fluid-or-none number) },
+    (record { refusal = PressureOutOfRange; is-number = refl; decide = either (decLt pascals lowest) (decLt highest pascals) }, tt),
+  ),
+)
+  where
+    unknown : ((fluid : Fluid) × (number ≡ numberOf fluid)) ⊎ ((fluid : Fluid) → number ≡ numberOf fluid → ⊥) → Dec ((fluid : Fluid) → number ≡ numberOf fluid → ⊥)
+    unknown (inl known) = no (λ none. none (known .0) (known .1))
+    unknown (inr none) = yes none
+
+    of-known : (fluid : Fluid) → number ≡ numberOf fluid → Dec ((millikelvin < coldest fluid) ⊎ (hottest < millikelvin)) → Dec (OfFluid number (λ other. (millikelvin < coldest other) ⊎ (hottest < millikelvin)))
+    of-known fluid is-number (yes out) = yes (record { fluid = fluid; is-number = is-number; holds = out })
+    of-known fluid is-number (no f) = no (λ given. f (of-fluid fluid is-number given))
+
+    temperature : ((fluid : Fluid) × (number ≡ numberOf fluid)) ⊎ ((fluid : Fluid) → number ≡ numberOf fluid → ⊥) → Dec (OfFluid number (λ other. (millikelvin < coldest other) ⊎ (hottest < millikelvin)))
+    temperature (inl known) = of-known (known .0) (known .1) (either (decLt millikelvin (coldest (known .0))) (decLt hottest millikelvin))
+    temperature (inr none) = no (λ given. none (given .fluid) (given .is-number))

@@ -1,7 +1,7 @@
 -- What is proved of the definitions of `specs/`, beside what each call promises: the bounds of a and b over every accepted state, that a density's
 -- factor is the molar mass over the gas constant, and that each promise fixes its answer. Assumes nothing.
 use mathlib.Core.Path.{_≡_, refl, sym, ap, ap₂, _∙_}
-use Prim.Native.Nat.{ℕ, _*_, _≤_, _<_}
+use Prim.Native.Nat.{ℕ, _*_, _/_, _≤_, _<_}
 use native.Mathlib.Omega.{arith}
 use Rattle.fluid.specs.declared.choice.Fluid.{Fluid}
 use Rattle.fluid.specs.declared.choice.Fluid.the-variants.{Hydrogen, Oxygen}
@@ -10,8 +10,8 @@ use Rattle.fluid.specs.declared.choice.Numbered.the-variants as Numbered
 use Rattle.fluid.specs.declared.coefficients.Reduced.{Reduced}
 use Rattle.fluid.specs.declared.coefficients.Reduction.{Reduction}
 use Rattle.fluid.specs.declared.coefficients.Reduction.the-variants as Reduction
-use Rattle.fluid.specs.Figures.{molarMass, densityFactor, Accepted}
-use Rattle.squares.proofs.Theorems.{square-root-determined}
+use Rattle.fluid.specs.Figures.{molarMass, criticalMillikelvin, densityFactor, Accepted}
+use Rattle.squares.proofs.Theorems.{square-root-determined, square-root-exists}
 use Rattle.fluid.specs.Reduced.{Reduces}
 use Rattle.fluid.specs.Checks.{fluidChecks, stateChecks}
 use Rattle.fluid.specs.Promise.{numbered, Numbers, Reached, reduction, Reaches, ReducesTo}
@@ -98,3 +98,12 @@ module _ (number millikelvin pascals : ℕ) where
   reduction-determined r s p q =
       let same = gives-once (stateChecks number millikelvin pascals) reached-once (reduction r) (reduction s) p q in
       sym (reduction-back r) ∙ ap reductionOf same ∙ reduction-back s
+
+-- every state comes to one t, p, s, a and b, in range or not
+pub reduced-exists : (fluid : Fluid) (millikelvin pascals : ℕ) → (reduced : Reduced) × Reduces fluid millikelvin pascals reduced
+reduced-exists fluid millikelvin pascals =
+    let t = 10000 * millikelvin / criticalMillikelvin fluid millikelvin in
+    let root = square-root-exists (10000 * t) in (
+      record { t = t; p = _; s = root .0; a = _; b = _ },
+      record { is-t = refl; is-p = refl; is-s = root .1; is-a = refl; is-b = refl },
+    )

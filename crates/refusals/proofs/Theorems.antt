@@ -37,19 +37,27 @@ gives-once checks once (with-value given) (with-number refusal) p q = absurd (no
 gives-once checks once (with-number refusal) (with-value given) p q = absurd (none-or-first checks refusal (q .0) p)
 gives-once checks once (with-number refusal) (with-number refusal′) p q = ap with-number (first-once checks refusal refusal′ p q)
 
--- each check can be decided
-abbrev pub Decided : List Check → Type 0
-Decided [] = Unit {0}
-Decided (check ∷ checks) = Dec (check .Applies) × Decided checks
+-- a check that can be decided, and the refusal that has its number
+pub record Decided (check : Check) : Type 0 where
+  pub refusal : Refusal
+  pub is-number : numberOfRefusal refusal ≡ check .number
+  pub decide : Dec (check .Applies)
 
-pub first-or-none : (checks : List Check) → Decided checks → ((refusal : ℕ) × FirstOf checks refusal) ⊎ NoneOf checks
+abbrev pub EachDecided : List Check → Type 0
+EachDecided [] = Unit {0}
+EachDecided (check ∷ checks) = Decided check × EachDecided checks
+
+abbrev pub First : List Check → Type 0
+First checks = (refusal : Refusal) × FirstOf checks (numberOfRefusal refusal)
+
+pub first-or-none : (checks : List Check) → EachDecided checks → First checks ⊎ NoneOf checks
 first-or-none [] decided = inr tt
-first-or-none (check ∷ checks) (yes applies, decided) = inl (check .number, inl (applies, refl))
-first-or-none (check ∷ checks) (no f, decided) = later (first-or-none checks decided)
+first-or-none (check ∷ checks) decided = by-test (decided .0 .decide) (first-or-none checks (decided .1))
   where
-    later : ((refusal : ℕ) × FirstOf checks refusal) ⊎ NoneOf checks → ((refusal : ℕ) × FirstOf (check ∷ checks) refusal) ⊎ NoneOf (check ∷ checks)
-    later (inl first) = inl (first .0, inr (f, first .1))
-    later (inr none) = inr (f, none)
+    by-test : Dec (check .Applies) → First checks ⊎ NoneOf checks → First (check ∷ checks) ⊎ NoneOf (check ∷ checks)
+    by-test (yes applies) later = inl (decided .0 .refusal, inl (applies, decided .0 .is-number))
+    by-test (no f) (inl first) = inl (first .0, inr (f, first .1))
+    by-test (no f) (inr none) = inr (f, none)
 
 -- the refusal that has a number, among some
 find : ℕ → List Refusal → Refusal

@@ -1,4 +1,5 @@
 -- The laws that belong to no one function. Each file cites only files that are named above it.
 pub mod Answering
 pub mod Determined
+pub mod Existence
 pub mod Theorems

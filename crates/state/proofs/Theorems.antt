@@ -15,7 +15,6 @@ use Rattle.fluid.specs.declared.coefficients.Reduced.{Reduced}
 use Rattle.fluid.specs.Figures.{numberOf, Accepted}
 use Rattle.fluid.specs.Checks.{stateChecks}
 use Rattle.fluid.specs.Reduced.{Reduces}
-use Rattle.fluid.proofs.Accepting.{passes}
 use Rattle.fluid.proofs.Fluids.{number-determines-fluid}
 use Rattle.fluid.proofs.Theorems.{reduced-determined}
 use Rattle.replies.specs.declared.Reply.{Reply}
@@ -25,7 +24,9 @@ use Rattle.replies.proofs.Theorems.{figures-determine-reply}
 use Rattle.state.specs.Replies.{Answered, Replies}
 use Rattle.state.specs.Book.{slotChecks, Placed, RepliesWithBook, ifKind, bookAfter, Called, Asked, without-book, with-book}
 use Rattle.state.specs.Shared.{Call, Gets, Shared, Alone}
+use Rattle.fluid.proofs.Accepting.{passes, state-decided}
 use Rattle.state.proofs.Determined.{told-once}
+use Rattle.state.proofs.Existence.{told, slot-decided}
 
 -- Every accepted state is answered, and the two roots reported are all the crossings there are, whatever a book holds.
 module _ {fluid : Fluid} {millikelvin pascals : ℕ} {reduced : Reduced} {figures : Figures} (accepted : Accepted fluid millikelvin pascals) (reduces : Reduces fluid millikelvin pascals reduced) (asked : Asked (numberOf fluid) millikelvin pascals figures) where
@@ -131,3 +132,18 @@ module _ (book : List ℕ) (calls : List Call) (replies : List Reply) (shared : 
   -- and the only one: two customers who share a slot get what each would get alone.
   pub shared-slot-as-alone : (others : List Reply) → Alone (replicate (length book) 0) calls others → replies ≡ others
   shared-slot-as-alone others = alone-determined _ calls replies others shared-slot-gets-alone
+
+-- Every state has a reply, and every call with a book has one too and leaves some book.
+pub record HasReply (number millikelvin pascals : ℕ) : Type 0 where
+  pub reply : Reply
+  pub replies : Replies number millikelvin pascals (figuresOf reply)
+
+pub every-state-has-a-reply : (number millikelvin pascals : ℕ) → HasReply number millikelvin pascals
+every-state-has-a-reply number millikelvin pascals =
+    let found = told number millikelvin pascals [] (state-decided number millikelvin pascals) in
+    record { reply = found .0; replies = found .1 }
+
+pub every-call-has-a-reply : (call : Call) (book : List ℕ) → (reply : Reply) × Gets call book reply
+every-call-has-a-reply call book =
+    let found = told (call .fluid) (call .millikelvin) (call .pascals) (slotChecks (call .slot) (length book)) (slot-decided _ _ _ (call .slot) (length book)) in
+    (found .0, record { after = bookAfter book (call .slot) (figuresOf (found .0)); called = record { replies = found .1; leaves = refl } })
