@@ -5,10 +5,9 @@ use mathlib.Core.List.{List}
 use Prim.Native.Nat.{ℕ, _<_}
 use native.Mathlib.Omega.{arith}
 use lib.ListN.{length, set}
-use Rattle.refusals.specs.Checks.{FirstOf, refuses, answers}
+use Rattle.refusals.specs.Checks.{NoneOf, FirstOf, refuses, answers}
 use Rattle.refusals.proofs.Lists.{none-both, first-front, first-behind}
 use Rattle.cubic.specs.Cubic.{Crossing, Kind, ONE, SPLIT}
-use Rattle.cubic.specs.Promise.{Within, BothRoots}
 use Rattle.cubic.proofs.Theorems.{crossing-from-b, crossing-on-grid}
 use Rattle.fluid.specs.declared.choice.Fluid.{Fluid}
 use Rattle.fluid.specs.declared.coefficients.Reduced.{Reduced}
@@ -16,18 +15,16 @@ use Rattle.fluid.specs.Figures.{Accepted}
 use Rattle.fluid.specs.Checks.{stateChecks}
 use Rattle.fluid.specs.Reduced.{Reduces}
 use Rattle.densities.specs.Promise.{Weighable}
+use Rattle.roots.specs.Promise.{Found, HasRoots}
 use Rattle.fluid.proofs.Accepting.{accepts}
-use Rattle.fluid.proofs.Theorems.{some-temperature, a-at-most, b-at-least-one, b-at-most}
+use Rattle.fluid.proofs.Theorems.{some-temperature, b-at-least-one, b-at-most}
 use Rattle.replies.specs.declared.Figures.{Figures}
 use Rattle.replies.specs.Figures.{numberOfKind, refusedWith}
 use Rattle.state.specs.Replies.{Answered}
 use Rattle.state.specs.Book.{slotChecks, Placed, ifKind, bookAfter, Called}
-use Rattle.state.specs.Inside.{Found, Weighty, Reported}
+use Rattle.state.specs.Inside.{Weighty, Reported}
 
 module _ {fluid : Fluid} {millikelvin pascals : ℕ} {reduced : Reduced} (accepted : Accepted fluid millikelvin pascals) (reduces : Reduces fluid millikelvin pascals reduced) where
-  pub within : Within (reduced .a) (reduced .b)
-  within = omega (arith, a-at-most accepted reduces, b-at-most accepted reduces)
-
   weighable : {z : ℕ} → Crossing (reduced .a) (reduced .b) z → Weighable millikelvin pascals z
   weighable {z} crossing =
       omega (
@@ -44,55 +41,49 @@ writes : (kind : Kind) (written before : List ℕ) → ifKind (numberOfKind kind
 writes ONE written before = refl
 writes SPLIT written before = refl
 
-module _ {number millikelvin pascals : ℕ} {fluid : Fluid} {gas dense : ℕ} (found : Found number millikelvin pascals fluid gas dense) where
-  accepted : Accepted fluid millikelvin pascals
-  accepted = accepts fluid (found .is-number) millikelvin pascals (found .passes)
+module _ {number millikelvin pascals : ℕ} {found : Found} (passes : NoneOf (stateChecks number millikelvin pascals)) (roots : HasRoots number millikelvin pascals found) where
+  accepted : Accepted (found .fluid) millikelvin pascals
+  accepted = accepts (found .fluid) (roots .is-number) millikelvin pascals passes
 
-  pub weighty : Weighty millikelvin pascals gas dense
+  pub weighty : Weighty millikelvin pascals (found .gas) (found .dense)
   weighty =
       record {
-        gas-fits = weighable accepted (found .reduces) (found .roots .is-gas .crossing);
-        dense-fits = weighable accepted (found .reduces) (found .roots .is-dense .crossing);
+        gas-fits = weighable accepted (roots .reduces) (roots .is-gas .crossing);
+        dense-fits = weighable accepted (roots .reduces) (roots .is-dense .crossing);
       }
 
   -- either root fits a slot of the book
-  pub fits-slot : (gas < 4294967296) × (dense < 4294967296)
+  pub fits-slot : (found .gas < 4294967296) × (found .dense < 4294967296)
   fits-slot =
       omega (
         arith,
-        b-at-most accepted (found .reduces),
-        crossing-on-grid _ _ gas (found .roots .is-gas .crossing),
-        crossing-on-grid _ _ dense (found .roots .is-dense .crossing),
+        b-at-most accepted (roots .reduces),
+        crossing-on-grid _ _ (found .gas) (roots .is-gas .crossing),
+        crossing-on-grid _ _ (found .dense) (roots .is-dense .crossing),
       )
 
-  pub answered : {figures : Figures} → Reported fluid millikelvin pascals gas dense figures → Answered number millikelvin pascals figures
+  pub answered : {figures : Figures} → Reported (found .fluid) millikelvin pascals (found .gas) (found .dense) figures → Answered number millikelvin pascals figures
   answered reported =
       record {
-        fluid = fluid;
-        is-number = found .is-number;
-        reduced = found .reduced;
-        reduces = found .reduces;
-        gas = gas;
-        is-gas = found .roots .is-gas;
-        dense = dense;
-        is-dense = found .roots .is-dense;
+        found = found;
+        roots = roots;
         kind = reported .kind;
         is-kind = reported .is-kind;
         is-figures = reported .is-figures;
       }
 
   module _ (slot : ℕ) (book : List ℕ) where
-    pub answered-in-slot : {figures : Figures} → Placed slot (length book) → Reported fluid millikelvin pascals gas dense figures → Called number millikelvin pascals slot book figures (set book slot gas)
+    pub answered-in-slot : {figures : Figures} → Placed slot (length book) → Reported (found .fluid) millikelvin pascals (found .gas) (found .dense) figures → Called number millikelvin pascals slot book figures (set book slot (found .gas))
     answered-in-slot placed reported =
         record {
-          replies = answers (none-both (stateChecks number millikelvin pascals) (slotChecks slot (length book)) (found .passes) placed) (answered reported);
-          leaves = sym (ap (bookAfter book slot) (reported .is-figures) ∙ writes (reported .kind) (set book slot gas) book);
+          replies = answers (none-both (stateChecks number millikelvin pascals) (slotChecks slot (length book)) passes placed) (answered reported);
+          leaves = sym (ap (bookAfter book slot) (reported .is-figures) ∙ writes (reported .kind) (set book slot (found .gas)) book);
         }
 
     pub no-slot : FirstOf (slotChecks slot (length book)) 4 → Called number millikelvin pascals slot book (refusedWith 4) book
     no-slot first =
         record {
-          replies = refuses 4 (first-behind (stateChecks number millikelvin pascals) (slotChecks slot (length book)) 4 (found .passes) first) refl;
+          replies = refuses 4 (first-behind (stateChecks number millikelvin pascals) (slotChecks slot (length book)) 4 passes first) refl;
           leaves = refl;
         }
 

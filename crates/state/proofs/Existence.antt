@@ -1,6 +1,6 @@
 -- Every state has a reply, with a book and without one: each check can be decided, and where none applies there is an answer. Assumes nothing.
-use mathlib.Core.Path.{_≡_, refl, sym, ap₂}
-use mathlib.Core.Logic.{_⊎_, inl, inr, ⊎-elim}
+use mathlib.Core.Path.{_≡_, refl}
+use mathlib.Core.Logic.{_⊎_, inl, inr}
 use mathlib.Core.List.{List, _++_}
 use Prim.Native.Nat.{ℕ}
 use native.Mathlib.Decide.{decLt, ℕ-discrete}
@@ -8,17 +8,14 @@ use Rattle.refusals.specs.Checks.{Check, NoneOf, Tells, refuses, answers}
 use Rattle.refusals.specs.declared.Refusal.the-variants.{NoSuchSlot}
 use Rattle.refusals.proofs.Lists.{none-front}
 use Rattle.refusals.proofs.Theorems.{EachDecided, First, first-or-none}
-use Rattle.cubic.specs.Cubic.{GasRoot, DenseRoot, Kind, ONE, SPLIT, IsKind}
-use Rattle.cubic.proofs.Theorems.{gas-root-exists, dense-root-exists, kind-exists}
-use Rattle.fluid.specs.declared.choice.Fluid.{Fluid}
-use Rattle.fluid.specs.Figures.{numberOf}
+use Rattle.cubic.specs.Cubic.{Kind, ONE, SPLIT, IsKind}
+use Rattle.cubic.proofs.Theorems.{kind-exists}
 use Rattle.fluid.specs.Checks.{stateChecks}
-use Rattle.fluid.proofs.Accepting.{either, fluid-or-none, state-decided}
-use Rattle.fluid.proofs.Theorems.{reduced-exists}
+use Rattle.fluid.proofs.Accepting.{either, state-decided}
+use Rattle.roots.proofs.Theorems.{roots-exist}
 use Rattle.densities.specs.Densities.{density}
 use Rattle.replies.specs.declared.Reply.{Reply}
 use Rattle.replies.specs.declared.Reply.the-variants.{One, Split, Refused}
-use Rattle.replies.specs.declared.Figures.{Figures}
 use Rattle.replies.specs.Figures.{answeredWith, figuresOf}
 use Rattle.state.specs.Replies.{NumberAndZeros, Answered}
 use Rattle.state.specs.Book.{slotChecks}
@@ -29,31 +26,12 @@ reported gas dense weighs ONE same = (One gas (weighs gas), rw same refl)
 reported gas dense weighs SPLIT apart = (Split gas dense (weighs gas) (weighs dense), refl)
 
 module _ (number millikelvin pascals : ℕ) where
-  answer-of : (fluid : Fluid) → number ≡ numberOf fluid → (reply : Reply) × Answered number millikelvin pascals (figuresOf reply)
-  answer-of fluid is-number =
-      let reduced = reduced-exists fluid millikelvin pascals in
-      let gas = gas-root-exists (reduced .0 .a) (reduced .0 .b) in
-      let dense = dense-root-exists (reduced .0 .a) (reduced .0 .b) in
-      let kind = kind-exists (gas .0) (dense .0) in
-      let told = reported (gas .0) (dense .0) (density fluid millikelvin pascals) (kind .0) (kind .1) in (
-        told .0,
-        record {
-          fluid = fluid;
-          is-number = is-number;
-          reduced = reduced .0;
-          reduces = reduced .1;
-          gas = gas .0;
-          is-gas = gas .1;
-          dense = dense .0;
-          is-dense = dense .1;
-          kind = kind .0;
-          is-kind = kind .1;
-          is-figures = told .1;
-        },
-      )
-
   answer : NoneOf (stateChecks number millikelvin pascals) → (reply : Reply) × Answered number millikelvin pascals (figuresOf reply)
-  answer none = ⊎-elim (λ known. answer-of (known .0) (known .1)) (λ unknown. absurd (none .0 unknown)) (fluid-or-none number)
+  answer none =
+      let roots = roots-exist number millikelvin pascals none in
+      let kind = kind-exists (roots .0 .gas) (roots .0 .dense) in
+      let told = reported (roots .0 .gas) (roots .0 .dense) (density (roots .0 .fluid) millikelvin pascals) (kind .0) (kind .1) in
+      (told .0, record { found = roots .0; roots = roots .1; kind = kind .0; is-kind = kind .1; is-figures = told .1 })
 
   -- whatever checks stand behind a state's own
   pub told : (more : List Check) → EachDecided (stateChecks number millikelvin pascals ++ more) → (reply : Reply) × Tells (stateChecks number millikelvin pascals ++ more) NumberAndZeros (Answered number millikelvin pascals) (figuresOf reply)

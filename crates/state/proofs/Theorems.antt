@@ -45,16 +45,16 @@ module _ {fluid : Fluid} {millikelvin pascals : ℕ} {reduced : Reduced} {figure
   pub accepted-is-answered : figures .number ≡ 0
   accepted-is-answered = ap (λ (f : Figures). f .number) (answer .is-figures)
 
-  same-reduced : answer .reduced ≡ reduced
+  same-reduced : answer .roots .reduced ≡ reduced
   same-reduced =
-      let same-fluid : answer .fluid ≡ fluid = sym (number-determines-fluid fluid (answer .fluid) (answer .is-number)) in
-      reduced-determined fluid millikelvin pascals (answer .reduced) reduced (rw same-fluid at (answer .reduces)) reduces
+      let same-fluid : answer .found .fluid ≡ fluid = sym (number-determines-fluid fluid (answer .found .fluid) (answer .roots .is-number)) in
+      reduced-determined fluid millikelvin pascals (answer .roots .reduced) reduced (rw same-fluid at (answer .roots .reduces)) reduces
 
   pub gas-root-is-reported : GasRoot (reduced .a) (reduced .b) (figures .«gas_root»)
-  gas-root-is-reported = rw (answer .is-figures) (rw same-reduced at (answer .is-gas))
+  gas-root-is-reported = rw (answer .is-figures) (rw same-reduced at (answer .roots .is-gas))
 
   pub dense-root-is-reported : DenseRoot (reduced .a) (reduced .b) (figures .«dense_root»)
-  dense-root-is-reported = rw (answer .is-figures) (rw same-reduced at (answer .is-dense))
+  dense-root-is-reported = rw (answer .is-figures) (rw same-reduced at (answer .roots .is-dense))
 
   pub every-crossing-is-reported : (z : ℕ) → Crossing (reduced .a) (reduced .b) z → (z ≡ figures .«gas_root») ⊎ (z ≡ figures .«dense_root»)
   every-crossing-is-reported = cubic.every-crossing-is-reported _ _ _ _ gas-root-is-reported dense-root-is-reported

@@ -1,30 +1,12 @@
-// The answer to an accepted state: its two roots, and a density for each.
+// The answer to an accepted state: its two roots, their kind, and a density for each.
 ghost use mathlib.Core.Path.{_≡_};
 ghost use Rattle.densities.specs.Promise.{Weighable};
 ghost use Rattle.densities.specs.Densities.{density};
-ghost use Rattle.cubic.specs.Promise.{Within, BothRoots};
 ghost use Rattle.replies.specs.Figures.{figuresOf};
 ghost use Rattle.state.specs.Inside.{Weighty, Reported};
 use densities::Density;
-use engine::Solution;
 use fluid::Fluid;
 use replies::Reply;
-
-pub(crate) struct Roots {
-    pub gas: u64,
-    pub dense: u64,
-}
-
-// The coefficients of an accepted state are within the cubic's bounds, so the last arm is never met.
-pub(crate) fn both_roots(a: u64, b: u64, start: u64) -> Roots
-    requires { ⌜ Within a b ⌝ }
-    ensures { λ r. ⌜ BothRoots a b (r .gas) (r .dense) ⌝ }
-{
-    match engine::solve(a, b, start) {
-        Solution::Roots { gas, dense } => Roots { gas, dense },
-        Solution::OutOfBounds => Roots { gas: 0, dense: 0 },
-    }
-}
 
 // The roots of an accepted state are within a density's bounds, so the last arm is never met.
 fn grams(fluid: Fluid, millikelvin: u64, pascals: u64, root: u64) -> u64
@@ -37,12 +19,10 @@ fn grams(fluid: Fluid, millikelvin: u64, pascals: u64, root: u64) -> u64
     }
 }
 
-pub(crate) fn answer(fluid: Fluid, millikelvin: u64, pascals: u64, roots: Roots) -> Reply
-    requires { ⌜ Weighty millikelvin pascals (roots .gas) (roots .dense) ⌝ }
-    ensures { λ r. ⌜ Reported fluid millikelvin pascals (roots .gas) (roots .dense) (figuresOf r) ⌝ }
+pub(crate) fn answer(fluid: Fluid, millikelvin: u64, pascals: u64, gas: u64, dense: u64) -> Reply
+    requires { ⌜ Weighty millikelvin pascals gas dense ⌝ }
+    ensures { λ r. ⌜ Reported fluid millikelvin pascals gas dense (figuresOf r) ⌝ }
 {
-    let gas = roots.gas;
-    let dense = roots.dense;
     let gas_density = grams(fluid, millikelvin, pascals, gas);
     if gas == dense {
         return Reply::One {

@@ -1,17 +1,15 @@
 // The reply to a state (document 01): a fluid's number, a temperature in millikelvin and a pressure in
 // pascals, each any 64-bit number at all, with a book of starting points or without one.
 mod answers;
-mod searches;
 
 ghost use Rattle.state.specs.Book.{Called};
 ghost use Rattle.replies.specs.Figures.{figuresOf};
 ghost use Rattle.state.specs.Replies.{Replies};
 use crate::answers::answer;
-use crate::searches::Searched;
-use crate::searches::search;
 use refusals::Refusal;
 pub use replies::Figures;
 pub use replies::Reply;
+use roots::Finding;
 
 // A book has one number a slot.
 const SLOTS: usize = 64;
@@ -22,9 +20,9 @@ const LAST_SLOT: u64 = 63;
 pub fn ask(fluid: u64, millikelvin: u64, pascals: u64) -> Reply
     ensures { λ r. ⌜ Replies fluid millikelvin pascals (figuresOf r) ⌝ }
 {
-    match search(fluid, millikelvin, pascals, 0) {
-        Searched::Refused(refusal) => Reply::Refused(refusal),
-        Searched::Found { fluid, roots } => answer(fluid, millikelvin, pascals, roots),
+    match roots::find(fluid, millikelvin, pascals, 0) {
+        Finding::Refused(refusal) => Reply::Refused(refusal),
+        Finding::Roots { fluid, gas, dense } => answer(fluid, millikelvin, pascals, gas, dense),
     }
 }
 
@@ -52,9 +50,9 @@ pub fn ask_with_book(
     ensures { λ r. ⌜ Called fluid millikelvin pascals slot (now (book .entry)) (figuresOf r) (now (book .exit)) ⌝ }
 {
     let start = start_in(book, slot);
-    match search(fluid, millikelvin, pascals, start) {
-        Searched::Refused(earlier) => Reply::Refused(earlier),
-        Searched::Found { fluid, roots } => {
+    match roots::find(fluid, millikelvin, pascals, start) {
+        Finding::Refused(earlier) => Reply::Refused(earlier),
+        Finding::Roots { fluid, gas, dense } => {
             if book.len() != SLOTS {
                 return Reply::Refused(Refusal::NoSuchSlot);
             }
@@ -62,9 +60,8 @@ pub fn ask_with_book(
                 return Reply::Refused(Refusal::NoSuchSlot);
             }
             let at = slot as usize;
-            let gas = roots.gas;
             book[at] = gas as u32;
-            answer(fluid, millikelvin, pascals, roots)
+            answer(fluid, millikelvin, pascals, gas, dense)
         }
     }
 }

@@ -49,14 +49,8 @@ module _ (fluid : Fluid) (millikelvin pascals : ℕ) where
     is-answer =
         by (λ reduces roots gas-is dense-is.
         record {
-          fluid = fluid;
-          is-number = refl;
-          reduced = reduced;
-          reduces = reduces;
-          gas = gas;
-          is-gas = roots .is-gas;
-          dense = dense;
-          is-dense = roots .is-dense;
+          found = record { fluid = fluid; gas = gas; dense = dense };
+          roots = record { is-number = refl; reduced = reduced; reduces = reduces; is-gas = roots .is-gas; is-dense = roots .is-dense };
           kind = kind;
           is-kind = roots .is-kind;
           is-figures = ap₂ (answeredWith kind gas dense) gas-is dense-is;

@@ -12,7 +12,7 @@ grams-requires c κs = search needs
 returns : tie.Need-returns
 returns c =
     let start = c .before .before .args in
-    let same : start .roots .gas ≡ start .roots .dense = omega arith in
+    let same : start .gas ≡ start .dense = omega arith in
     let weighed = c .before .grams .ensures in
     record { kind = ONE; is-kind = same; is-figures = rw (← same, weighed) refl }
 
@@ -22,7 +22,7 @@ grams-requires-2 c κs = search needs
 returns-2 : tie.Need-returns-2
 returns-2 c =
     let start = c .before .before .before .args in
-    let apart : start .roots .gas ≡ start .roots .dense → ⊥ = λ same. omega arith in
+    let apart : start .gas ≡ start .dense → ⊥ = λ same. omega arith in
     record { kind = SPLIT; is-kind = apart; is-figures = rw (c .before .before .grams .ensures, c .grams2 .ensures) refl }
 
 pub answer-spec : {M : Type 1} → statement M

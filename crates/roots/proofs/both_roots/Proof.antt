@@ -1,7 +1,7 @@
--- `state::answers::both_roots` meets its contract: it is that of `engine::solve`, whose refusal cannot be met within bounds. Assumes nothing.
+-- `roots::both_roots` meets its contract: it is that of `engine::solve`, whose refusal cannot be met within bounds. Assumes nothing.
 use borrow.Author.Needs.{needs}
-use Rattle.state.proofs.answers.both_roots.Statement.{statement}
-use Rattle.state.proofs.answers.both_roots.Tie as tie
+use Rattle.roots.proofs.both_roots.Statement.{statement}
+use Rattle.roots.proofs.both_roots.Tie as tie
 
 solve-requires : tie.Need-solve-requires
 solve-requires c κs = search needs

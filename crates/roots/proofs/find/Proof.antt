@@ -1,12 +1,12 @@
--- `state::searches::search` meets its contract: a refusal is passed on, and an accepted state is within the cubic's bounds. Assumes nothing.
+-- `roots::find` meets its contract: a refusal is passed on, and an accepted state is within the cubic's bounds. Assumes nothing.
 use native.Mathlib.Omega.{arith}
 use Rattle.fluid.specs.Promise.{ReducesTo}
 use Rattle.refusals.specs.Checks.{with-value}
 use Rattle.fluid.proofs.Accepting.{accepts}
-use Rattle.state.proofs.Answering.{within}
+use Rattle.roots.proofs.Theorems.{within}
 use borrow.Author.Needs.{needs}
-use Rattle.state.proofs.searches.search.Statement.{statement}
-use Rattle.state.proofs.searches.search.Tie as tie
+use Rattle.roots.proofs.find.Statement.{statement}
+use Rattle.roots.proofs.find.Tie as tie
 
 -- what `fluid::reduce` says of an accepted state
 reached : (c : tie.After-fluid) → let start = c .before .before .before .args in ReducesTo (start .number) (start .millikelvin) (start .pascals) (with-value (record { fluid = c .fluid .given .0 .0; reduced = c .fluid .given .0 .1 .0 }))
@@ -33,10 +33,11 @@ returns-2 : tie.Need-returns-2
 returns-2 c =
     let fluid = c .before .before in
     let state = reached fluid in
-    record { passes = state .0; is-number = state .1 .is-number; reduced = fluid .fluid .given .0 .1 .0; reduces = state .1 .reduces; roots = c .both-roots .ensures }
+    let roots = c .both-roots .ensures in
+    (state .0, record { is-number = state .1 .is-number; reduced = fluid .fluid .given .0 .1 .0; reduces = state .1 .reduces; is-gas = roots .is-gas; is-dense = roots .is-dense })
 
-pub search-spec : {M : Type 1} → statement M
-search-spec =
+pub find-spec : {M : Type 1} → statement M
+find-spec =
     tie.close
     (tie.spec
     reduce-requires

@@ -1,0 +1,2 @@
+-- What is proved of the roots of a state.
+pub mod Theorems

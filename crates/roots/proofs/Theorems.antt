@@ -1,0 +1,65 @@
+-- The coefficients of an accepted state are within the cubic's bounds, two answers that keep what `find` promises are equal,
+-- and an accepted state has roots. Assumes nothing.
+use mathlib.Core.Path.{_≡_, refl, sym, ap, _∙_}
+use mathlib.Core.Logic.{⊎-elim}
+use Prim.Native.Nat.{ℕ}
+use native.Mathlib.Omega.{arith}
+use Rattle.refusals.specs.Checks.{NoneOf, Outcome, with-value, with-number}
+use Rattle.refusals.proofs.Theorems.{gives-once, refusalOf, refusal-of-number}
+use Rattle.cubic.specs.Promise.{Within}
+use Rattle.cubic.proofs.Theorems.{gas-root-unique, dense-root-unique, gas-root-exists, dense-root-exists}
+use Rattle.fluid.specs.declared.choice.Fluid.{Fluid}
+use Rattle.fluid.specs.declared.coefficients.Reduced.{Reduced}
+use Rattle.fluid.specs.Figures.{numberOf, Accepted}
+use Rattle.fluid.specs.Checks.{stateChecks}
+use Rattle.fluid.specs.Reduced.{Reduces}
+use Rattle.fluid.proofs.Accepting.{fluid-or-none}
+use Rattle.fluid.proofs.Fluids.{number-determines-fluid}
+use Rattle.fluid.proofs.Theorems.{reduced-determined, reduced-exists, a-at-most, b-at-most}
+use Rattle.roots.specs.declared.Finding.{Finding}
+use Rattle.roots.specs.declared.Finding.the-variants as Finding
+use Rattle.roots.specs.Promise.{Found, finding, HasRoots, Finds}
+
+pub within : {fluid : Fluid} {millikelvin pascals : ℕ} {reduced : Reduced} → Accepted fluid millikelvin pascals → Reduces fluid millikelvin pascals reduced → Within (reduced .a) (reduced .b)
+within accepted reduces = omega (arith, a-at-most accepted reduces, b-at-most accepted reduces)
+
+findingOf : Outcome Found → Finding
+findingOf (with-value found) = Finding.Roots (found .fluid) (found .gas) (found .dense)
+findingOf (with-number refusal) = Finding.Refused (refusalOf refusal)
+
+finding-back : (r : Finding) → findingOf (finding r) ≡ r
+unfolding findingOf
+finding-back (Finding.Roots fluid gas dense) = refl
+finding-back (Finding.Refused refusal) = ap Finding.Refused (refusal-of-number refusal)
+
+module _ (number millikelvin pascals : ℕ) where
+  made : (fluid : Fluid) (gas dense : ℕ) → Found
+  made fluid gas dense = record { fluid = fluid; gas = gas; dense = dense }
+
+  pub roots-once : (r s : Found) → HasRoots number millikelvin pascals r → HasRoots number millikelvin pascals s → r ≡ s
+  unfolding made
+  roots-once r s p q =
+      let same-fluid : r .fluid ≡ s .fluid = number-determines-fluid (r .fluid) (s .fluid) (sym (p .is-number) ∙ q .is-number) in
+      let same-reduced : p .reduced ≡ q .reduced = reduced-determined (s .fluid) millikelvin pascals (p .reduced) (q .reduced) (rw same-fluid at (p .reduces)) (q .reduces) in
+      let same-gas : r .gas ≡ s .gas = gas-root-unique _ _ (rw same-reduced at (p .is-gas)) (q .is-gas) in
+      let same-dense : r .dense ≡ s .dense = dense-root-unique _ _ (rw same-reduced at (p .is-dense)) (q .is-dense) in
+      let fields : made (r .fluid) (r .gas) (r .dense) ≡ made (s .fluid) (s .gas) (s .dense) = cc in
+      fields
+
+  pub finding-determined : (r s : Finding) → Finds number millikelvin pascals (finding r) → Finds number millikelvin pascals (finding s) → r ≡ s
+  finding-determined r s p q =
+      let same = gives-once (stateChecks number millikelvin pascals) roots-once (finding r) (finding s) p q in
+      sym (finding-back r) ∙ ap findingOf same ∙ finding-back s
+
+  -- a state to which no check applies has two roots
+  pub roots-exist : NoneOf (stateChecks number millikelvin pascals) → (found : Found) × HasRoots number millikelvin pascals found
+  roots-exist none = ⊎-elim of-known (λ unknown. absurd (none .0 unknown)) (fluid-or-none number)
+    where
+      of-known : (fluid : Fluid) × (number ≡ numberOf fluid) → (found : Found) × HasRoots number millikelvin pascals found
+      of-known known =
+          let reduced = reduced-exists (known .0) millikelvin pascals in
+          let gas = gas-root-exists (reduced .0 .a) (reduced .0 .b) in
+          let dense = dense-root-exists (reduced .0 .a) (reduced .0 .b) in (
+            record { fluid = known .0; gas = gas .0; dense = dense .0 },
+            record { is-number = known .1; reduced = reduced .0; reduces = reduced .1; is-gas = gas .1; is-dense = dense .1 },
+          )
