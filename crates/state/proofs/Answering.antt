@@ -1,8 +1,12 @@
 -- From what the crates below promise to what a call promises: an accepted state is within every bound that they ask, and its two roots with
 -- their densities are what the definitions name. Assumes nothing.
 use mathlib.Core.Path.{_≡_, refl, sym, ap, _∙_}
+use mathlib.Core.Logic.{_⊎_, inl, inr, ⊎-elim}
+use mathlib.Core.Bool.{true, false}
 use mathlib.Core.List.{List}
-use Prim.Native.Nat.{ℕ, _<_}
+use Prim.Native.Nat.{ℕ, _≤_, _<_}
+use native.Mathlib.Nat.{lt-of-not-le}
+use native.Mathlib.Decide.{decLe}
 use native.Mathlib.Omega.{arith}
 use lib.ListN.{length, set}
 use Rattle.refusals.specs.Checks.{NoneOf, FirstOf, refuses, answers}
@@ -22,7 +26,7 @@ use Rattle.replies.specs.declared.Figures.{Figures}
 use Rattle.replies.specs.Figures.{numberOfKind, refusedWith}
 use Rattle.state.specs.Replies.{Answered}
 use Rattle.state.specs.Book.{slotChecks, Placed, ifKind, bookAfter, Called}
-use Rattle.state.specs.Inside.{Weighty, Reported}
+use Rattle.state.specs.Inside.{Weighty, Reported, Leaves}
 
 module _ {fluid : Fluid} {millikelvin pascals : ℕ} {reduced : Reduced} (accepted : Accepted fluid millikelvin pascals) (reduces : Reduces fluid millikelvin pascals reduced) where
   weighable : {z : ℕ} → Crossing (reduced .a) (reduced .b) z → Weighable millikelvin pascals z
@@ -52,15 +56,9 @@ module _ {number millikelvin pascals : ℕ} {found : Found} (passes : NoneOf (st
         dense-fits = weighable accepted (roots .reduces) (roots .is-dense .crossing);
       }
 
-  -- either root fits a slot of the book
-  pub fits-slot : (found .gas < 4294967296) × (found .dense < 4294967296)
-  fits-slot =
-      omega (
-        arith,
-        b-at-most accepted (roots .reduces),
-        crossing-on-grid _ _ (found .gas) (roots .is-gas .crossing),
-        crossing-on-grid _ _ (found .dense) (roots .is-dense .crossing),
-      )
+  -- the gas root fits a slot of the book
+  pub fits-slot : found .gas < 4294967296
+  fits-slot = omega (arith, b-at-most accepted (roots .reduces), crossing-on-grid _ _ (found .gas) (roots .is-gas .crossing))
 
   pub answered : {figures : Figures} → Reported (found .fluid) millikelvin pascals (found .gas) (found .dense) figures → Answered number millikelvin pascals figures
   answered reported =
@@ -72,20 +70,25 @@ module _ {number millikelvin pascals : ℕ} {found : Found} (passes : NoneOf (st
         is-figures = reported .is-figures;
       }
 
-  module _ (slot : ℕ) (book : List ℕ) where
-    pub answered-in-slot : {figures : Figures} → Placed slot (length book) → Reported (found .fluid) millikelvin pascals (found .gas) (found .dense) figures → Called number millikelvin pascals slot book figures (set book slot (found .gas))
-    answered-in-slot placed reported =
+  module _ (slot : ℕ) (book after : List ℕ) where
+    pub answered-in-slot : {figures : Figures} → Leaves book slot (found .gas) after true → Reported (found .fluid) millikelvin pascals (found .gas) (found .dense) figures → Called number millikelvin pascals slot book figures after
+    answered-in-slot left reported =
+        let placed : Placed slot (length book) = (⊎-elim (λ other. other (left .0)) (λ past. omega (arith, left .1)), tt) in
         record {
           replies = answers (none-both (stateChecks number millikelvin pascals) (slotChecks slot (length book)) passes placed) (answered reported);
-          leaves = sym (ap (bookAfter book slot) (reported .is-figures) ∙ writes (reported .kind) (set book slot (found .gas)) book);
+          leaves = left .2 ∙ sym (ap (bookAfter book slot) (reported .is-figures) ∙ writes (reported .kind) (set book slot (found .gas)) book);
         }
 
-    pub no-slot : FirstOf (slotChecks slot (length book)) 4 → Called number millikelvin pascals slot book (refusedWith 4) book
-    no-slot first =
+    pub refused-by-slot : {refusal : ℕ} → refusal ≡ 4 → Leaves book slot (found .gas) after false → Called number millikelvin pascals slot book (refusedWith refusal) after
+    refused-by-slot {refusal} is-4 left =
         record {
-          replies = refuses 4 (first-behind (stateChecks number millikelvin pascals) (slotChecks slot (length book)) 4 passes first) refl;
-          leaves = refl;
+          replies = refuses refusal (first-behind (stateChecks number millikelvin pascals) (slotChecks slot (length book)) refusal passes (inl (by-slot (decLe slot 63), is-4))) refl;
+          leaves = left .1;
         }
+      where
+        by-slot : Dec (slot ≤ 63) → (length book ≡ 64 → ⊥) ⊎ (63 < slot)
+        by-slot (yes there) = inl (λ is-book. left .0 is-book there)
+        by-slot (no f) = inr (lt-of-not-le f)
 
 pub refused-before-slot : (number millikelvin pascals slot : ℕ) (book : List ℕ) (refusal : ℕ) → FirstOf (stateChecks number millikelvin pascals) refusal → Called number millikelvin pascals slot book (refusedWith refusal) book
 refused-before-slot number millikelvin pascals slot book refusal first =

@@ -1,6 +1,9 @@
 -- What the private functions ask and promise. Nothing public is stated by this file.
 use mathlib.Core.Path.{_≡_}
-use Prim.Native.Nat.{ℕ}
+use mathlib.Core.Bool.{Bool, true, false}
+use mathlib.Core.List.{List}
+use Prim.Native.Nat.{ℕ, _≤_}
+use lib.ListN.{length, set}
 use Rattle.cubic.specs.Cubic.{Kind, IsKind}
 use Rattle.fluid.specs.declared.choice.Fluid.{Fluid}
 use Rattle.densities.specs.Densities.{density}
@@ -17,3 +20,8 @@ pub record Reported (fluid : Fluid) (millikelvin pascals gas dense : ℕ) (figur
   pub kind : Kind
   pub is-kind : IsKind gas dense kind
   pub is-figures : figures ≡ answeredWith kind gas dense (density fluid millikelvin pascals gas) (density fluid millikelvin pascals dense)
+
+-- what became of the book, by whether it has the slot
+abbrev pub Leaves : (before : List ℕ) (slot gas : ℕ) (after : List ℕ) → Bool → Type 0
+Leaves before slot gas after true = (length before ≡ 64) × (slot ≤ 63) × (after ≡ set before slot gas)
+Leaves before slot gas after false = (length before ≡ 64 → slot ≤ 63 → ⊥) × (after ≡ before)

@@ -2,7 +2,9 @@
 // pascals, each any 64-bit number at all, with a book of starting points or without one.
 mod answers;
 
+ghost use Prim.Native.Nat.{_<_};
 ghost use Rattle.state.specs.Book.{Called};
+ghost use Rattle.state.specs.Inside.{Leaves};
 ghost use Rattle.replies.specs.Figures.{figuresOf};
 ghost use Rattle.state.specs.Replies.{Replies};
 use crate::answers::answer;
@@ -26,15 +28,29 @@ pub fn ask(fluid: u64, millikelvin: u64, pascals: u64) -> Reply
     }
 }
 
-// What the slot holds, and 0 where there is no such slot. It promises nothing, as no reply depends on it.
+// What the book holds at the slot, and 0 where it ends before that. It promises nothing, as no reply
+// depends on it.
 fn start_in(book: &[u32], slot: u64) -> u64 {
+    let at = slot as usize;
+    if at < book.len() {
+        return book[at] as u64;
+    }
+    0
+}
+
+// Whether the book has the slot: if so the gas root is in it, and if not nothing is written.
+fn leave(book: &mut [u32], slot: u64, gas: u64) -> bool
+    requires { ⌜ gas < 4294967296 ⌝ }
+    ensures { λ r. ⌜ Leaves (now (book .entry)) slot gas (now (book .exit)) r ⌝ }
+{
     if book.len() != SLOTS {
-        return 0;
+        return false;
     }
     if LAST_SLOT < slot {
-        return 0;
+        return false;
     }
-    book[slot as usize] as u64
+    book[slot as usize] = gas as u32;
+    true
 }
 
 // With a book: the search may begin at what the slot holds, and leaves the gas root there. The number in
@@ -53,15 +69,10 @@ pub fn ask_with_book(
     match roots::find(fluid, millikelvin, pascals, start) {
         Finding::Refused(earlier) => Reply::Refused(earlier),
         Finding::Roots { fluid, gas, dense } => {
-            if book.len() != SLOTS {
-                return Reply::Refused(Refusal::NoSuchSlot);
+            if leave(book, slot, gas) {
+                return answer(fluid, millikelvin, pascals, gas, dense);
             }
-            if LAST_SLOT < slot {
-                return Reply::Refused(Refusal::NoSuchSlot);
-            }
-            let at = slot as usize;
-            book[at] = gas as u32;
-            answer(fluid, millikelvin, pascals, gas, dense)
+            Reply::Refused(Refusal::NoSuchSlot)
         }
     }
 }

@@ -4,12 +4,6 @@ use borrow.Author.Needs.{needs}
 use Rattle.state.proofs.start_in.Statement.{statement}
 use Rattle.state.proofs.start_in.Tie as tie
 
-returns : tie.Need-returns
-returns c = search needs
-
-returns-2 : tie.Need-returns-2
-returns-2 c = search needs
-
 mul-result : tie.Need-mul-result
 mul-result c = search needs
 
@@ -17,12 +11,13 @@ shared-slice-read-result : tie.Need-shared-slice-read-result
 shared-slice-read-result c = search needs
 
 cast-result : tie.Need-cast-result
-cast-result c = omega (arith, c .shared-slice-known .given (c .before .before .before .args .slot))
+cast-result c = omega (arith, c .shared-slice-known .given (c .before .before .args .slot))
 
-returns-3 : tie.Need-returns-3
-returns-3 c = search needs
+returns : tie.Need-returns
+returns c = search needs
+
+returns-2 : tie.Need-returns-2
+returns-2 c = search needs
 
 pub start-in-spec : {M : Type 1} → statement M
-start-in-spec =
-    tie.close
-    (tie.spec returns returns-2 mul-result shared-slice-read-result cast-result returns-3)
+start-in-spec = tie.close (tie.spec mul-result shared-slice-read-result cast-result returns returns-2)
