@@ -15,18 +15,11 @@ pub(crate) fn crosses(a: u64, b: u64, z: u64) -> bool
     requires { ⌜ Within a b × GasSide b z ⌝ }
     ensures { λ r. ⌜ (r ≡ true → Crosses a b z) ⌝ }
 {
+    if minus(a, b, z) < plus(a, z) {
+        return false;
+    }
     let next = z + 1;
-    let plus_here = plus(a, z);
-    let minus_here = minus(a, b, z);
-    let plus_next = plus(a, next);
-    let minus_next = minus(a, b, next);
-    if minus_here < plus_here {
-        return false;
-    }
-    if plus_next <= minus_next {
-        return false;
-    }
-    true
+    minus(a, b, next) < plus(a, next)
 }
 
 // N less a place, and 0 from N on.
@@ -51,8 +44,5 @@ pub(crate) fn alone(a: u64, b: u64, gas: u64) -> bool
         return false;
     }
     let sum = left_to_grid(gas);
-    if 4 * GRID * a * b < sum * sum * gas {
-        return false;
-    }
-    true
+    sum * sum * gas <= 4 * GRID * a * b
 }

@@ -12,58 +12,58 @@ left : (b : ℕ) → N - 3 * b ≤ N
 left b = omega arith
 
 add-last : tie.Need-add-last
-add-last c = search needs
+add-last c = omega arith
 
 returns : tie.Need-returns
-returns c = search needs
+returns c = omega arith
 
 add-first-order : tie.Need-add-first-order
-add-first-order c = search needs
+add-first-order c = omega arith
 
 mul-first-order : tie.Need-mul-first-order
 mul-first-order c = omega (arith, monomials {z = 0} (c .before .pre) (omega arith))
 
 mul-less : tie.Need-mul-less
-mul-less c = search needs
+mul-less c = omega arith
 
 sub-less : tie.Need-sub-less
-sub-less c = search needs
+sub-less c = omega arith
 
 mul-less-2 : tie.Need-mul-less-2
 mul-less-2 c = omega (arith, mul-le-mul (c .before .pre .a-fits) (left (c .before .args .b)))
 
 returns-2 : tie.Need-returns-2
-returns-2 c = search needs
+returns-2 c = omega arith
 
 sub-second-order : tie.Need-sub-second-order
-sub-second-order c = search needs
+sub-second-order c = omega arith
 
 mul-fallen : tie.Need-mul-fallen
-mul-fallen c = search needs
+mul-fallen c = omega arith
 
 mul-fallen-2 : tie.Need-mul-fallen-2
-mul-fallen-2 c = search needs
+mul-fallen-2 c = omega arith
 
 add-fallen : tie.Need-add-fallen
 add-fallen c = omega (arith, monomials {z = 0} (c .before .before .pre) (omega arith))
 
 sub-fallen : tie.Need-sub-fallen
-sub-fallen c = search needs
+sub-fallen c = omega arith
 
 div-fallen : tie.Need-div-fallen
-div-fallen c = search needs
+div-fallen c = omega arith
 
 sub-if3 : tie.Need-sub-if3
-sub-if3 c = search needs
+sub-if3 c = omega arith
 
 returns-3 : tie.Need-returns-3
-returns-3 c = search needs
+returns-3 c = omega arith
 
 sub-result : tie.Need-sub-result
-sub-result c = search needs
+sub-result c = omega arith
 
 returns-4 : tie.Need-returns-4
-returns-4 c = search needs
+returns-4 c = omega arith
 
 pub nearer-spec : {M : Type 1} → statement M
 nearer-spec =

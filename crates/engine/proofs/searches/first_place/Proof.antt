@@ -7,43 +7,43 @@ use Rattle.engine.proofs.searches.first_place.Statement.{statement}
 use Rattle.engine.proofs.searches.first_place.Tie as tie
 
 add-top : tie.Need-add-top
-add-top c = search needs
+add-top c = omega arith
 
 add-top-2 : tie.Need-add-top-2
-add-top-2 c = search needs
+add-top-2 c = omega arith
 
 nearer-requires : tie.Need-nearer-requires
-nearer-requires c κs = search needs
+nearer-requires c κs = omega arith
 
 add-high : tie.Need-add-high
-add-high c = search needs
+add-high c = omega arith
 
 rise-requires : tie.Need-rise-requires
-rise-requires c κs = search needs
+rise-requires c κs = omega arith
 
 plus-requires : tie.Need-plus-requires
-plus-requires c κs = search needs
+plus-requires c κs = omega arith
 
 minus-requires : tie.Need-minus-requires
-minus-requires c κs = search needs
+minus-requires c κs = omega arith
 
 place-at-requires : tie.Need-place-at-requires
 place-at-requires c κs = (c .before .before .before .before .before .pre, from-top _ _ (omega arith) (omega arith))
 
 returns : tie.Need-returns
-returns c = search needs
+returns c = c .place-at .ensures .1
 
 place-at-requires-2 : tie.Need-place-at-requires-2
 place-at-requires-2 c κs = (c .before .before .before .before .before .before .pre, from-top _ _ (omega arith) (omega arith))
 
 returns-2 : tie.Need-returns-2
-returns-2 c = search needs
+returns-2 c = c .place-at2 .ensures .1
 
 sub-room : tie.Need-sub-room
-sub-room c = search needs
+sub-room c = omega arith
 
 sub-room-2 : tie.Need-sub-room-2
-sub-room-2 c = search needs
+sub-room-2 c = omega arith
 
 returns-3 : tie.Need-returns-3
 returns-3 c =

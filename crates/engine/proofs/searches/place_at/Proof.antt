@@ -11,16 +11,16 @@ above : (c : tie.After-minus) → c .minus .result < c .before .plus .result
 above c = omega (arith, positive-at _ _ (c .before .before .before .pre .1))
 
 sub-rise : tie.Need-sub-rise
-sub-rise c = search needs
+sub-rise c = omega arith
 
 rise-requires : tie.Need-rise-requires
-rise-requires c κs = search needs
+rise-requires c κs = omega arith
 
 plus-requires : tie.Need-plus-requires
-plus-requires c κs = search needs
+plus-requires c κs = omega arith
 
 minus-requires : tie.Need-minus-requires
-minus-requires c κs = search needs
+minus-requires c κs = omega arith
 
 sub-room : tie.Need-sub-room
 sub-room c = omega (arith, above c)
