@@ -33,6 +33,7 @@ module _ (a b : ℕ) where
       record {
         positive = rw add-one (positive-from a b z limit (omega (arith, plus-grows a z, minus-grows a b z, crosses .not-positive, crosses .then-positive)) (crosses .then-positive));
         found = λ h. crosses .not-positive;
+        to-bend = omega arith;
       }
 
   -- the step below the next place is the one at this place
@@ -54,7 +55,7 @@ module _ {a b high room slope : ℕ} where
           omega (arith, turn .is-room, gentle a b (high - 1) y high (turn .is-slope) allows (omega arith) (omega arith) (λ w from to. downwards (omega arith) (omega arith)))
 
   pub fall-misses : Allows room slope (high - bend) → Falling a b high room slope → FallsTo a b (bend - 1)
-  fall-misses allows turn = record { positive = stays-positive bend (omega arith) allows turn; found = λ h. omega arith }
+  fall-misses allows turn = record { positive = stays-positive bend (omega arith) allows turn; found = λ h. omega arith; to-bend = omega arith }
 
   pub fall-finds : room < slope → Falling a b high room slope → FallsTo a b (high - 1)
   fall-finds small turn =
@@ -62,6 +63,7 @@ module _ {a b high room slope : ℕ} where
       record {
         positive = rw (add-one, after) (turn .begins .positive);
         found = λ h. omega (arith, turn .is-room, rw after at (steep a b (high - 1) (turn .is-slope) small));
+        to-bend = omega (arith, turn .begins .past-bend);
       }
 
   pub fall-goes-on : room / slope < high - bend → Falling a b high room slope → FallsFrom a b (high - room / slope)
