@@ -10,20 +10,19 @@ use Rattle.cubic.specs.Sides.{bend, PositiveFrom, NotPositiveTo, FallsTo
 use Rattle.cubic.proofs.Roots.{gas-root, dense-root, gas-is-dense, dense-is-gas}
 
 -- of two ends, the lower would have g positive where the higher has it not, or not yet positive where the higher has it
-module _ {a b y z : ℕ} where
-  falls-to : FallsTo a b y → FallsTo a b z → z ≤ y
-  unfolding PositiveFrom
-  falls-to low high = by-contra z y (λ h. omega (arith, low .to-bend, low .positive z (omega arith), high .found (omega (arith, low .to-bend))))
-
-  climbs-to : ClimbsTo a b y → ClimbsTo a b z → z ≤ y
-  unfolding NotPositiveTo
-  climbs-to low high = by-contra z y (λ h. omega (arith, low .found (omega (arith, high .to-bend)), high .not-positive (y + 1) (omega arith)))
-
 pub falls-once : {a b y z : ℕ} → FallsTo a b y → FallsTo a b z → y ≡ z
-falls-once one other = le-antisymm (falls-to other one) (falls-to one other)
+unfolding PositiveFrom
+falls-once {a} {b} one other = le-antisymm (to other one) (to one other)
+  where
+    to : {y z : ℕ} → FallsTo a b y → FallsTo a b z → z ≤ y
+    to {y} {z} low high = by-contra z y (λ h. omega (arith, low .to-bend, low .positive z (omega arith), high .found (omega (arith, low .to-bend))))
 
 pub climbs-once : {a b y z : ℕ} → ClimbsTo a b y → ClimbsTo a b z → y ≡ z
-climbs-once one other = le-antisymm (climbs-to other one) (climbs-to one other)
+unfolding NotPositiveTo
+climbs-once {a} {b} one other = le-antisymm (to other one) (to one other)
+  where
+    to : {y z : ℕ} → ClimbsTo a b y → ClimbsTo a b z → z ≤ y
+    to {y} {z} low high = by-contra z y (λ h. omega (arith, low .found (omega (arith, high .to-bend)), high .not-positive (y + 1) (omega arith)))
 
 -- a crossing that is alone is both roots
 pub one-alone : {a b z : ℕ} → Within a b → FallsTo a b z → Alone a b z → BothRoots a b z z

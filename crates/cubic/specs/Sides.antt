@@ -52,6 +52,7 @@ pub record GasSide (b z : ℕ) : Type 0 where
 pub record FallsFrom (a b high : ℕ) : Type 0 where
   pub past-bend : bend < high
   pub on-grid : high ≤ N + b + 1
+  pub positive-here : minus a b high < plus a high
   pub positive : PositiveFrom a b high
 
 -- a place of that search, by its values: the room is what g has above 1 at `high`, the slope that of the step below `high`

@@ -1,3 +1,2 @@
--- What shows that a promise is kept, and what is proved of the promises beside that.
-pub mod Ends
+-- What is proved of the promises beside that the code keeps them.
 pub mod Theorems

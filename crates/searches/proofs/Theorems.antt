@@ -1,24 +1,20 @@
--- What each search promises fixes its answer. Assumes nothing.
+-- What a search promises is its end within the bounds, and fixes its answer. Assumes nothing.
 use mathlib.Core.Path.{_≡_, sym, _∙_}
-use Prim.Native.Nat.{ℕ, _≤_}
-use native.Mathlib.Decide.{decLe}
-use Rattle.cubic.specs.Promise.{largestA, largestB, Within}
+use Prim.Native.Nat.{ℕ}
+use Rattle.cubic.specs.Promise.{Within}
 use Rattle.cubic.specs.Sides.{FallsTo, ClimbsTo}
 use Rattle.cubic.proofs.Ends.{falls-once, climbs-once}
-use Rattle.searches.specs.Promise.{Ends}
+use Rattle.searches.specs.Promise.{Ends, answers, refuses}
 
-ends-once : {End : (a b z : ℕ) → Type 0} {a b : ℕ} → ((r s : ℕ) → End a b r → End a b s → r ≡ s) → (r s : ℕ) → Ends End a b r → Ends End a b s → r ≡ s
-ends-once {a = a} {b = b} once r s p q = by-bounds (decLe a largestA) (decLe b largestB)
-  where
-    outside : (Within a b → ⊥) → r ≡ s
-    outside f = p .outside f ∙ sym (q .outside f)
+module _ {End : (a b z : ℕ) → Type 0} {a b : ℕ} where
+  pub end-within : {r : ℕ} → Within a b → Ends End a b r → End a b r
+  end-within w (answers v end) = end
+  end-within w (refuses out none) = absurd (out w)
 
-    by-bounds : Dec (a ≤ largestA) → Dec (b ≤ largestB) → r ≡ s
-    by-bounds (yes h) (yes k) =
-        let within : Within a b = record { a-fits = h; b-fits = k } in
-        once r s (p .inside within) (q .inside within)
-    by-bounds (yes h) (no f) = outside (λ w. f (w .b-fits))
-    by-bounds (no f) k = outside (λ w. f (w .a-fits))
+  ends-once : ((r s : ℕ) → End a b r → End a b s → r ≡ s) → (r s : ℕ) → Ends End a b r → Ends End a b s → r ≡ s
+  ends-once once r s (answers w end) q = once r s end (end-within w q)
+  ends-once once r s (refuses out none) (answers w end) = absurd (out w)
+  ends-once once r s (refuses out none) (refuses out′ none′) = none ∙ sym none′
 
 pub gas-crossing-determined : (a b r s : ℕ) → Ends FallsTo a b r → Ends FallsTo a b s → r ≡ s
 gas-crossing-determined a b = ends-once (λ r s. falls-once)

@@ -4,6 +4,6 @@ use mathlib.Core.Path.{_≡_}
 use Prim.Native.Nat.{ℕ}
 use Rattle.cubic.specs.Promise.{Within}
 
-pub record Ends (End : (a b z : ℕ) → Type 0) (a b r : ℕ) : Type 0 where
-  pub inside : Within a b → End a b r
-  pub outside : (Within a b → ⊥) → r ≡ 0
+pub data Ends (End : (a b z : ℕ) → Type 0) (a b r : ℕ) : Type 0 where
+  answers : Within a b → End a b r → Ends End a b r
+  refuses : (Within a b → ⊥) → r ≡ 0 → Ends End a b r

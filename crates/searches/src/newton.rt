@@ -5,6 +5,7 @@ ghost use mathlib.Core.Path.{_≡_};
 ghost use Rattle.cubic.specs.Promise.{Within};
 ghost use Rattle.cubic.specs.Sides.{FallsFrom, Falling, FallsTo, ClimbsTo};
 use crate::guesses::nearer;
+use crate::sides::BELOW_BEND;
 use crate::sides::BEND;
 use crate::sides::GRID;
 use crate::sides::minus;
@@ -64,14 +65,14 @@ pub(crate) fn fall(a: u64, b: u64) -> u64
         let slope = place.slope;
         let room = place.room;
         if slope == 0 {
-            return BEND - 1;
+            return BELOW_BEND;
         }
         if room < slope {
             return high - 1;
         }
         let jump = room / slope;
         if high - BEND <= jump {
-            return BEND - 1;
+            return BELOW_BEND;
         }
         place = place_at(a, b, high - jump);
     }

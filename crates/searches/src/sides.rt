@@ -11,6 +11,8 @@ pub const GRID: u64 = 100_000;
 
 pub const BEND: u64 = 33_333;
 
+pub(crate) const BELOW_BEND: u64 = BEND - 1;
+
 pub(crate) fn plus(a: u64, z: u64) -> u64
     requires { ⌜ (a ≤ largestA) × (z ≤ farthest) ⌝ }
     ensures { λ r. ⌜ r ≡ Sides·plus a z ⌝ }

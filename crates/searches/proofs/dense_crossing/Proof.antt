@@ -1,14 +1,15 @@
 -- `searches::dense_crossing` meets its contract: within the bounds it is that of `climb`. Assumes nothing.
+use mathlib.Core.Path.{refl}
 use native.Mathlib.Omega.{arith}
-use Rattle.searches.proofs.Ends.{refuses, answers}
+use Rattle.searches.specs.Promise.{answers, refuses}
 use Rattle.searches.proofs.dense_crossing.Statement.{statement}
 use Rattle.searches.proofs.dense_crossing.Tie as tie
 
 returns : tie.Need-returns
-returns c = refuses (omega arith)
+returns c = refuses (omega arith) refl
 
 returns-2 : tie.Need-returns-2
-returns-2 c = refuses (omega arith)
+returns-2 c = refuses (omega arith) refl
 
 climb-requires : tie.Need-climb-requires
 climb-requires c κs = omega arith

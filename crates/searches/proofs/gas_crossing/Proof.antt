@@ -1,15 +1,16 @@
 -- `searches::gas_crossing` meets its contract: a start that is a crossing on the gas side is where the search would end. Assumes nothing.
+use mathlib.Core.Path.{refl}
 use native.Mathlib.Omega.{arith}
 use Rattle.cubic.proofs.Falls.{ends-at-crossing}
-use Rattle.searches.proofs.Ends.{refuses, answers}
+use Rattle.searches.specs.Promise.{answers, refuses}
 use Rattle.searches.proofs.gas_crossing.Statement.{statement}
 use Rattle.searches.proofs.gas_crossing.Tie as tie
 
 returns : tie.Need-returns
-returns c = refuses (omega arith)
+returns c = refuses (omega arith) refl
 
 returns-2 : tie.Need-returns-2
-returns-2 c = refuses (omega arith)
+returns-2 c = refuses (omega arith) refl
 
 gas-side-requires : tie.Need-gas-side-requires
 gas-side-requires c κs = omega arith

@@ -1,15 +1,11 @@
 -- `searches::guesses::nearer` meets its contract: whatever it works out, the place lies on the gas side. Assumes nothing.
-use Prim.Native.Nat.{ℕ, _*_, _-_, _≤_}
-use native.Mathlib.Nat.{mul-le-mul}
+use Prim.Native.Nat.{_*_}
+use native.Mathlib.Nat.{mul-le-mul, sub-le}
 use native.Mathlib.Omega.{arith}
 use Rattle.cubic.specs.Cubic.{N}
 use Rattle.cubic.proofs.Widths.{monomials}
-use borrow.Author.Needs.{needs}
 use Rattle.searches.proofs.guesses.nearer.Statement.{statement}
 use Rattle.searches.proofs.guesses.nearer.Tie as tie
-
-left : (b : ℕ) → N - 3 * b ≤ N
-left b = omega arith
 
 add-last : tie.Need-add-last
 add-last c = omega arith
@@ -30,7 +26,7 @@ sub-less : tie.Need-sub-less
 sub-less c = omega arith
 
 mul-less-2 : tie.Need-mul-less-2
-mul-less-2 c = omega (arith, mul-le-mul (c .before .pre .a-fits) (left (c .before .args .b)))
+mul-less-2 c = omega (arith, mul-le-mul (c .before .pre .a-fits) (sub-le N (3 * c .before .args .b)))
 
 returns-2 : tie.Need-returns-2
 returns-2 c = omega arith

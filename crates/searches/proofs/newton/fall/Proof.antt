@@ -20,14 +20,11 @@ first-place-requires c κs = c .pre
 loop-holds : tie.Need-loop-holds Inv-loop μ-loop
 loop-holds c = c .first-place .ensures
 
-sub-result : tie.Need-sub-result Inv-loop μ-loop
-sub-result c = omega arith
-
 returns : tie.Need-returns Inv-loop μ-loop
 returns c = fall-misses (flat (c .if1 .taken)) (c .before .loop .inv)
 
-sub-result-2 : tie.Need-sub-result-2 Inv-loop μ-loop
-sub-result-2 c = omega (arith, c .before .before .loop .inv .begins)
+sub-result : tie.Need-sub-result Inv-loop μ-loop
+sub-result c = omega (arith, c .before .before .loop .inv .begins)
 
 returns-2 : tie.Need-returns-2 Inv-loop μ-loop
 returns-2 c = fall-finds (c .if2 .taken) (c .before .before .loop .inv)
@@ -37,9 +34,6 @@ div-jump c = pos-of-ne-zero (c .before .if1 .left)
 
 sub-if3 : tie.Need-sub-if3 Inv-loop μ-loop
 sub-if3 c = omega (arith, c .before .before .loop .inv .begins)
-
-sub-result-3 : tie.Need-sub-result-3 Inv-loop μ-loop
-sub-result-3 c = omega arith
 
 returns-3 : tie.Need-returns-3 Inv-loop μ-loop
 returns-3 c = fall-misses (jump (c .if3 .taken)) (c .before .before .before .loop .inv)
@@ -68,13 +62,11 @@ fall-spec =
     μ-loop
     first-place-requires
     loop-holds
-    sub-result
     returns
-    sub-result-2
+    sub-result
     returns-2
     div-jump
     sub-if3
-    sub-result-3
     returns-3
     sub-place-at
     place-at-requires

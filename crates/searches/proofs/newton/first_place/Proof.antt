@@ -2,7 +2,6 @@
 use native.Mathlib.Nat.{pos-of-ne-zero}
 use native.Mathlib.Omega.{arith}
 use Rattle.cubic.proofs.Falls.{from-top, from-start, slope-below}
-use borrow.Author.Needs.{needs}
 use Rattle.searches.proofs.newton.first_place.Statement.{statement}
 use Rattle.searches.proofs.newton.first_place.Tie as tie
 
