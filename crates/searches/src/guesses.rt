@@ -16,12 +16,12 @@ pub(crate) fn gas_side(b: u64, start: u64) -> u64
     ensures { λ r. ⌜ GasSide b r ⌝ }
 {
     if start < BEND {
-        return BEND;
+        BEND
+    } else if GRID + b < start {
+        BEND
+    } else {
+        start
     }
-    if GRID + b < start {
-        return BEND;
-    }
-    start
 }
 
 // Whether z is a crossing. From the bend on there is at most one, so it is then the gas root.
@@ -30,10 +30,11 @@ pub(crate) fn crosses(a: u64, b: u64, z: u64) -> bool
     ensures { λ r. ⌜ (r ≡ true → Crosses a b z) ⌝ }
 {
     if minus(a, b, z) < plus(a, z) {
-        return false;
+        false
+    } else {
+        let next = z + 1;
+        minus(a, b, next) < plus(a, next)
     }
-    let next = z + 1;
-    minus(a, b, next) < plus(a, next)
 }
 
 // Near the gas root and hardly ever below it. The root z lies below N + b by w, with w z (z + b) equal to
@@ -56,7 +57,8 @@ pub(crate) fn nearer(a: u64, b: u64) -> u64
     let second_order = first_order - less;
     let fallen = (GRID * GRID * a + second_order - 1) / second_order;
     if last - BEND <= fallen {
-        return last;
+        last
+    } else {
+        last - fallen
     }
-    last - fallen
 }

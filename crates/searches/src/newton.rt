@@ -43,13 +43,13 @@ fn first_place(a: u64, b: u64) -> Place
     let above = plus(a, high);
     let below = minus(a, b, high);
     if slope == 0 {
-        return place_at(a, b, top);
+        place_at(a, b, top)
+    } else if above <= below {
+        place_at(a, b, top)
+    } else {
+        let room = above - below - 1;
+        Place { high, slope, room }
     }
-    if above <= below {
-        return place_at(a, b, top);
-    }
-    let room = above - below - 1;
-    Place { high, slope, room }
 }
 
 // The crossing at the bend or above, if there is one, and the place below the bend if there is none.

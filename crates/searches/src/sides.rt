@@ -34,8 +34,5 @@ pub(crate) fn rise(a: u64, b: u64, z: u64) -> u64
 {
     let up = 3 * (z * (z + 1)) + 1 + GRID * a;
     let down = GRID * (2 * z + 1) + b * (b + GRID);
-    if up <= down {
-        return 0;
-    }
-    up - down
+    if up <= down { 0 } else { up - down }
 }

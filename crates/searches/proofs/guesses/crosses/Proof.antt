@@ -12,9 +12,6 @@ minus-requires c κs = omega arith
 plus-requires : tie.Need-plus-requires
 plus-requires c κs = omega arith
 
-returns : tie.Need-returns
-returns c said = absurd (false≢true said)
-
 add-next : tie.Need-add-next
 add-next c = omega arith
 
@@ -24,10 +21,20 @@ minus-requires-2 c κs = omega arith
 plus-requires-2 : tie.Need-plus-requires-2
 plus-requires-2 c κs = omega arith
 
+returns : tie.Need-returns
+returns c said = absurd (false≢true said)
+
 returns-2 : tie.Need-returns-2
 returns-2 c said = crossing (omega arith) (omega (arith, ltb-true))
 
 pub crosses-spec : {M : Type 1} → statement M
 crosses-spec =
     tie.close
-    (tie.spec minus-requires plus-requires returns add-next minus-requires-2 plus-requires-2 returns-2)
+    (tie.spec
+    minus-requires
+    plus-requires
+    add-next
+    minus-requires-2
+    plus-requires-2
+    returns
+    returns-2)

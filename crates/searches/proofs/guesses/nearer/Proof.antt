@@ -52,11 +52,11 @@ div-fallen c = omega arith
 sub-if3 : tie.Need-sub-if3
 sub-if3 c = omega arith
 
-returns-3 : tie.Need-returns-3
-returns-3 c = omega arith
-
 sub-result : tie.Need-sub-result
 sub-result c = omega arith
+
+returns-3 : tie.Need-returns-3
+returns-3 c = omega arith
 
 returns-4 : tie.Need-returns-4
 returns-4 c = omega arith
@@ -80,6 +80,6 @@ nearer-spec =
     sub-fallen
     div-fallen
     sub-if3
-    returns-3
     sub-result
+    returns-3
     returns-4)

@@ -29,20 +29,20 @@ minus-requires c κs = omega arith
 place-at-requires : tie.Need-place-at-requires
 place-at-requires c κs = (c .before .before .before .before .before .pre, from-top _ _ (omega arith) (omega arith))
 
-returns : tie.Need-returns
-returns c = c .place-at .ensures .1
-
 place-at-requires-2 : tie.Need-place-at-requires-2
 place-at-requires-2 c κs = (c .before .before .before .before .before .before .pre, from-top _ _ (omega arith) (omega arith))
-
-returns-2 : tie.Need-returns-2
-returns-2 c = c .place-at2 .ensures .1
 
 sub-room : tie.Need-sub-room
 sub-room c = omega arith
 
 sub-room-2 : tie.Need-sub-room-2
 sub-room-2 c = omega arith
+
+returns : tie.Need-returns
+returns c = c .place-at .ensures .1
+
+returns-2 : tie.Need-returns-2
+returns-2 c = c .place-at2 .ensures .1
 
 returns-3 : tie.Need-returns-3
 returns-3 c =
@@ -67,9 +67,9 @@ first-place-spec =
     plus-requires
     minus-requires
     place-at-requires
-    returns
     place-at-requires-2
-    returns-2
     sub-room
     sub-room-2
+    returns
+    returns-2
     returns-3)

@@ -45,12 +45,12 @@ mul-down-3 c = omega (arith, bounds c)
 add-down-3 : tie.Need-add-down-3
 add-down-3 c = omega (arith, bounds c)
 
+sub-result : tie.Need-sub-result
+sub-result c = omega arith
+
 returns : tie.Need-returns
 unfolding rise plusStep minusStep
 returns c = omega arith
-
-sub-result : tie.Need-sub-result
-sub-result c = omega arith
 
 returns-2 : tie.Need-returns-2
 unfolding rise plusStep minusStep
@@ -72,6 +72,6 @@ rise-spec =
     add-down-2
     mul-down-3
     add-down-3
-    returns
     sub-result
+    returns
     returns-2)
