@@ -1,3 +1,3 @@
--- Laws of whole numbers that two crates or more would otherwise each prove.
+-- Laws of whole numbers that belong to no subject.
 pub mod Search
 pub mod Squares

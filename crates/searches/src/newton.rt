@@ -1,4 +1,4 @@
-// The two searches by Newton's method. Each goes from outside towards the bend by Newton steps with exact differences:
+// The two searches. Each goes from outside towards the bend by Newton steps with exact differences:
 // a straight line bounds g as far as the bend, so nothing on the way is skipped, and no sign change
 // is trusted that is not the first from outside.
 ghost use mathlib.Core.Path.{_≡_};

@@ -1,5 +1,5 @@
 -- `searches::newton::climb` meets its contract. The loop's invariant: the search stands at `low`, before the bend. The measure is the way
--- left to the bend. What a turn may conclude is in `Climbs.antt`. Assumes nothing.
+-- left to the bend. What a turn may conclude is in `Climbs.antt` of `cubic`. Assumes nothing.
 use mathlib.Core.Path.{_≡_}
 use Prim.Native.Nat.{ℕ, _+_, _-_, _≤_}
 use native.Mathlib.Nat.{pos-of-ne-zero}

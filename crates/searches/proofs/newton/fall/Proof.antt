@@ -1,5 +1,5 @@
 -- `searches::newton::fall` meets its contract. The loop's invariant: the search may begin at the place, and the place has its values. The measure is how
--- high it is. What a turn may conclude is in `Falls.antt`. Assumes nothing.
+-- high it is. What a turn may conclude is in `Falls.antt` of `cubic`. Assumes nothing.
 use native.Mathlib.Nat.{pos-of-ne-zero}
 use native.Mathlib.Omega.{arith}
 use Rattle.cubic.specs.Sides.{Falling}
