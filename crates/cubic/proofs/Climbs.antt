@@ -30,13 +30,14 @@ module _ {a b low room slope : ℕ} where
           omega (arith, turn .is-room, gentle a b low low y (turn .is-slope) allows (omega arith) (omega arith) (λ w from to. upwards from (omega arith)))
 
   pub climb-misses : Allows room slope (bend - low) → Climbing a b low room slope → ClimbsTo a b bend
-  climb-misses allows turn = record { not-positive = stays-not-positive bend (omega arith) allows turn; found = λ h. omega arith }
+  climb-misses allows turn = record { not-positive = stays-not-positive bend (omega arith) allows turn; found = λ h. omega arith; to-bend = omega arith }
 
   pub climb-finds : room < slope → Climbing a b low room slope → ClimbsTo a b low
   climb-finds small turn =
       record {
         not-positive = turn .begins .not-positive;
         found = λ h. rw add-one (omega (arith, turn .is-room, steep a b low (turn .is-slope) small));
+        to-bend = omega (arith, turn .begins .before-bend);
       }
 
   pub climb-goes-on : room / slope < bend - low → Climbing a b low room slope → ClimbsFrom a b (low + room / slope)

@@ -1,12 +1,28 @@
--- What the ends of the two searches say together: the roots, by the sides of the bend on which the searches ended. Assumes nothing.
+-- Each search has one end, and what the two ends say together: the roots, by the sides of the bend on which the searches ended.
+-- Assumes nothing.
+use mathlib.Core.Path.{_≡_}
 use Prim.Native.Nat.{ℕ, _+_, _≤_, _<_}
-use native.Mathlib.Nat.{lt-of-not-le}
-use native.Mathlib.Omega.{arith}
-use native.Mathlib.Decide.{decLe}
+use native.Mathlib.Nat.{lt-of-not-le, le-antisymm}
+use native.Mathlib.Omega.{arith, by-contra}
 use Rattle.cubic.specs.Cubic.{GasRoot, DenseRoot}
 use Rattle.cubic.specs.Promise.{Within, BothRoots}
 use Rattle.cubic.specs.Sides.{bend, PositiveFrom, NotPositiveTo, FallsTo, Alone, ClimbsTo}
 use Rattle.cubic.proofs.Roots.{gas-root, dense-root, gas-is-dense, dense-is-gas}
+
+-- of two ends, the lower would have g positive where the higher has it not, or not yet positive where the higher has it
+pub falls-once : {a b y z : ℕ} → FallsTo a b y → FallsTo a b z → y ≡ z
+unfolding PositiveFrom
+falls-once {a} {b} one other = le-antisymm (to other one) (to one other)
+  where
+    to : {y z : ℕ} → FallsTo a b y → FallsTo a b z → z ≤ y
+    to {y} {z} low high = by-contra z y (λ h. omega (arith, low .to-bend, low .positive z (omega arith), high .found (omega (arith, low .to-bend))))
+
+pub climbs-once : {a b y z : ℕ} → ClimbsTo a b y → ClimbsTo a b z → y ≡ z
+unfolding NotPositiveTo
+climbs-once {a} {b} one other = le-antisymm (to other one) (to one other)
+  where
+    to : {y z : ℕ} → ClimbsTo a b y → ClimbsTo a b z → z ≤ y
+    to {y} {z} low high = by-contra z y (λ h. omega (arith, low .found (omega (arith, high .to-bend)), high .not-positive (y + 1) (omega arith)))
 
 -- a crossing that is alone is both roots
 pub one-alone : {a b z : ℕ} → Within a b → FallsTo a b z → Alone a b z → BothRoots a b z z
@@ -28,11 +44,7 @@ module _ {a b high low : ℕ} (within : Within a b) (fallen : FallsTo a b high) 
   -- a fall that ends below the bend leaves a crossing there for the climb
   below-bend : high < bend → low < bend
   unfolding PositiveFrom NotPositiveTo
-  below-bend missed = by-order (decLe bend low)
-    where
-      by-order : Dec (bend ≤ low) → low < bend
-      by-order (yes h) = omega (arith, fallen .positive bend (omega arith), climbed .not-positive bend h)
-      by-order (no f) = lt-of-not-le f
+  below-bend missed = lt-of-not-le (λ h. omega (arith, fallen .positive bend (omega arith), climbed .not-positive bend h))
 
   pub one-below : high < bend → BothRoots a b low low
   unfolding PositiveFrom

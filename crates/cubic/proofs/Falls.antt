@@ -15,7 +15,13 @@ module _ (a b : ℕ) where
   -- above N + b g is positive for good
   pub from-top : {top : ℕ} → N + b < top → top ≤ N + b + 1 → FallsFrom a b top
   unfolding PositiveFrom
-  from-top above within = record { past-bend = omega arith; on-grid = within; positive = λ y higher. above-grid a b y (omega arith) }
+  from-top {top} above within =
+      record {
+        past-bend = omega arith;
+        on-grid = within;
+        positive-here = above-grid a b top above;
+        positive = λ y higher. above-grid a b y (omega arith);
+      }
 
   -- and so it is above a start from the bend on at which it rises to a positive value
   pub from-start : {slope : ℕ} (start : ℕ) → bend ≤ start → start < N + b + 1 → slope ≡ rise a b start → 0 < slope → minus a b (start + 1) < plus a (start + 1) → FallsFrom a b (start + 1)
@@ -24,6 +30,7 @@ module _ (a b : ℕ) where
       record {
         past-bend = omega arith;
         on-grid = omega arith;
+        positive-here = positive;
         positive = rw add-one (positive-from a b start limit (omega arith) (rw add-one at positive));
       }
 
@@ -33,15 +40,12 @@ module _ (a b : ℕ) where
       record {
         positive = rw add-one (positive-from a b z limit (omega (arith, plus-grows a z, minus-grows a b z, crosses .not-positive, crosses .then-positive)) (crosses .then-positive));
         found = λ h. crosses .not-positive;
+        to-bend = omega arith;
       }
 
   -- the step below the next place is the one at this place
   pub slope-below : {slope : ℕ} (z : ℕ) → slope ≡ rise a b z → slope ≡ rise a b (z + 1 - 1)
   slope-below z is-slope = rw (add-sub-cancel z 1) is-slope
-
-  pub positive-at : {high : ℕ} → FallsFrom a b high → minus a b high < plus a high
-  unfolding PositiveFrom
-  positive-at {high} begins = begins .positive high (omega arith)
 
 module _ {a b high room slope : ℕ} where
   stays-positive : (z : ℕ) → bend ≤ z → Allows room slope (high - z) → Falling a b high room slope → PositiveFrom a b z
@@ -54,7 +58,7 @@ module _ {a b high room slope : ℕ} where
           omega (arith, turn .is-room, gentle a b (high - 1) y high (turn .is-slope) allows (omega arith) (omega arith) (λ w from to. downwards (omega arith) (omega arith)))
 
   pub fall-misses : Allows room slope (high - bend) → Falling a b high room slope → FallsTo a b (bend - 1)
-  fall-misses allows turn = record { positive = stays-positive bend (omega arith) allows turn; found = λ h. omega arith }
+  fall-misses allows turn = record { positive = stays-positive bend (omega arith) allows turn; found = λ h. omega arith; to-bend = omega arith }
 
   pub fall-finds : room < slope → Falling a b high room slope → FallsTo a b (high - 1)
   fall-finds small turn =
@@ -62,12 +66,16 @@ module _ {a b high room slope : ℕ} where
       record {
         positive = rw (add-one, after) (turn .begins .positive);
         found = λ h. omega (arith, turn .is-room, rw after at (steep a b (high - 1) (turn .is-slope) small));
+        to-bend = omega (arith, turn .begins .past-bend);
       }
 
   pub fall-goes-on : room / slope < high - bend → Falling a b high room slope → FallsFrom a b (high - room / slope)
+  unfolding PositiveFrom
   fall-goes-on near turn =
+      let positive : PositiveFrom a b (high - room / slope) = stays-positive (high - room / slope) (omega arith) (jump (omega arith)) turn in
       record {
         past-bend = omega arith;
         on-grid = omega (arith, turn .begins .on-grid);
-        positive = stays-positive (high - room / slope) (omega arith) (jump (omega arith)) turn;
+        positive-here = positive (high - room / slope) (omega arith);
+        positive = positive;
       }

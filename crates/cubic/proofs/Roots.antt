@@ -3,8 +3,7 @@
 use Prim.Native.Nat.{ℕ, suc, _+_, _≤_, _<_}
 use native.Mathlib.Nat.{lt-of-not-le, not-le-of-lt}
 use native.Mathlib.Numerals.{add-one}
-use native.Mathlib.Omega.{arith}
-use native.Mathlib.Decide.{decLe}
+use native.Mathlib.Omega.{arith, by-contra}
 use Rattle.cubic.specs.Cubic.{Crossing, GasRoot, DenseRoot}
 use Rattle.cubic.specs.Sides.{plus, minus, plusStep, minusStep, bend, PositiveFrom, NotPositiveTo, Crosses}
 use Rattle.cubic.proofs.Signed.{to-positive, of-positive}
@@ -20,28 +19,20 @@ module _ (a b : ℕ) where
       }
 
   of-crossing : {z : ℕ} → Crossing a b z → Crosses a b z
-  of-crossing {z} c = record { not-positive = by-order (decLe (plus a z) (minus a b z)); then-positive = of-positive a b (suc z) (rw add-one at (c .then-positive)) }
-    where
-      by-order : Dec (plus a z ≤ minus a b z) → plus a z ≤ minus a b z
-      by-order (yes h) = h
-      by-order (no f) = absurd (c .not-positive (to-positive a b z (lt-of-not-le f)))
+  of-crossing {z} c =
+      record {
+        not-positive = by-contra (plus a z) (minus a b z) (λ h. c .not-positive (to-positive a b z h));
+        then-positive = of-positive a b (suc z) (rw add-one at (c .then-positive));
+      }
 
   -- no crossing lies where g is positive for good, and none below where it has not been positive yet
   pub before-positive : {high y : ℕ} → PositiveFrom a b high → Crossing a b y → y < high
   unfolding PositiveFrom
-  before-positive {high} {y} positive c = by-order (decLe high y)
-    where
-      by-order : Dec (high ≤ y) → y < high
-      by-order (yes h) = omega (arith, of-crossing c, positive y h)
-      by-order (no f) = lt-of-not-le f
+  before-positive {high} {y} positive c = lt-of-not-le (λ h. omega (arith, of-crossing c, positive y h))
 
   pub after-not-positive : {low y : ℕ} → NotPositiveTo a b low → Crossing a b y → low ≤ y
   unfolding NotPositiveTo
-  after-not-positive {low} {y} not-positive c = by-order (decLe low y)
-    where
-      by-order : Dec (low ≤ y) → low ≤ y
-      by-order (yes h) = h
-      by-order (no f) = omega (arith, of-crossing c, not-positive (suc y) (omega arith))
+  after-not-positive {low} {y} not-positive c = by-contra low y (λ h. omega (arith, of-crossing c, not-positive (suc y) h))
 
   pub gas-root : {z : ℕ} → plus a z ≤ minus a b z → PositiveFrom a b (z + 1) → GasRoot a b z
   unfolding PositiveFrom

@@ -2,9 +2,8 @@
 -- Assumes nothing.
 use mathlib.Core.Path.{_≡_}
 use Prim.Native.Nat.{ℕ, zero, suc, _+_, _*_, _-_, _≤_, _<_}
-use native.Mathlib.Nat.{add-zero, add-sub-of-le, mul-le-mul, mul-le-mul-left, mul-le-mul-right, le-of-lt}
+use native.Mathlib.Nat.{add-zero, add-sub-of-le, mul-le-mul, mul-le-mul-left, mul-le-mul-right, le-of-lt, lt-of-not-le}
 use native.Mathlib.Omega.{arith}
-use native.Mathlib.Decide.{decLe}
 use Rattle.cubic.specs.Cubic.{N}
 use Rattle.cubic.specs.Sides.{plus, minus, plusStep, minusStep, bend}
 
@@ -59,8 +58,4 @@ towards-bend a b e {z} {y} (downwards limit below) bound = down (z - y) (omega a
 
 -- A step that rises rises on, away from the bend.
 pub away-from-bend : (a b : ℕ) {z y : ℕ} → Towards z y → minusStep b y < plusStep a y → minusStep b z < plusStep a z
-away-from-bend a b {z} {y} between rising = by-order (decLe (plusStep a z) (minusStep b z + 0))
-  where
-    by-order : Dec (plusStep a z ≤ minusStep b z + 0) → minusStep b z < plusStep a z
-    by-order (yes low) = omega (arith, towards-bend a b 0 between low)
-    by-order (no f) = omega arith
+away-from-bend a b between rising = lt-of-not-le (λ low. omega (arith, towards-bend a b 0 between (omega arith)))

@@ -3,8 +3,7 @@ use mathlib.Core.Path.{_≡_}
 use Prim.Native.Nat.{ℕ, _+_, _*_, _-_, _≤_, _<_}
 use native.Mathlib.Nat.{mul-le-mul-left, mul-le-mul-right, le-of-mul-le-mul-left}
 use native.Mathlib.Numerals.{add-one}
-use native.Mathlib.Omega.{arith}
-use native.Mathlib.Decide.{decLe}
+use native.Mathlib.Omega.{arith, by-contra}
 use Rattle.numbers.proofs.Squares.{twice-product}
 use Rattle.cubic.specs.Cubic.{N}
 use Rattle.cubic.specs.Sides.{plus, minus, NotPositiveTo, Crosses}
@@ -16,11 +15,7 @@ crossing not-positive then-positive = record { not-positive = not-positive; then
 
 -- nothing above N + b is a crossing
 pub on-grid : (a b z : ℕ) → plus a z ≤ minus a b z → z ≤ N + b
-on-grid a b z not-positive = by-order (decLe z (N + b))
-  where
-    by-order : Dec (z ≤ N + b) → z ≤ N + b
-    by-order (yes h) = h
-    by-order (no f) = omega (arith, above-grid a b z (omega arith))
+on-grid a b z not-positive = by-contra z (N + b) (λ h. omega (arith, above-grid a b z h))
 
 -- A crossing G that is alone. With d = G - z, G g(z) = z g(G) - d (G z z - (N - G) G z + N a b). Where the square of N - G, times G, is at most
 -- 4 N a b, the bracket is not negative, as the square of 2 z - (N - G) is not. So g(G) not being positive makes g(z) not positive.

@@ -1,5 +1,5 @@
--- g in two halves over naturals, g(z) = plus(z) - minus(z), and what the engine's private functions ask and promise of them.
--- Nothing public is stated by this file: `proofs/Signed.antt` ties the halves to the g that document 01 writes.
+-- g in two halves over naturals, g(z) = plus(z) - minus(z), and what the searches ask and promise of them. What `engine` promises is not
+-- stated by this file: `proofs/Signed.antt` ties the halves to the g that document 01 writes.
 use mathlib.Core.Path.{_≡_}
 use Prim.Native.Nat.{ℕ, suc, _+_, _*_, _-_, _≤_, _<_}
 use Rattle.cubic.specs.Cubic.{N}
@@ -52,6 +52,7 @@ pub record GasSide (b z : ℕ) : Type 0 where
 pub record FallsFrom (a b high : ℕ) : Type 0 where
   pub past-bend : bend < high
   pub on-grid : high ≤ N + b + 1
+  pub positive-here : minus a b high < plus a high
   pub positive : PositiveFrom a b high
 
 -- a place of that search, by its values: the room is what g has above 1 at `high`, the slope that of the step below `high`
@@ -60,10 +61,11 @@ pub record Falling (a b high room slope : ℕ) : Type 0 where
   pub is-slope : slope ≡ rise a b (high - 1)
   pub begins : FallsFrom a b high
 
--- where that search ends: at the crossing, if there is one from the bend on, and below the bend if there is none
+-- where that search ends: at the crossing, if there is one from the bend on, and just below the bend if there is none
 pub record FallsTo (a b z : ℕ) : Type 0 where
   pub positive : PositiveFrom a b (z + 1)
   pub found : bend ≤ z → plus a z ≤ minus a b z
+  pub to-bend : bend ≤ z + 1
 
 -- a place that such a search found, with nothing positive below it
 pub record Alone (a b z : ℕ) : Type 0 where
@@ -75,7 +77,8 @@ pub record ClimbsFrom (a b low : ℕ) : Type 0 where
   pub before-bend : low < bend
   pub not-positive : NotPositiveTo a b low
 
--- where a search from below ends: at the crossing, if there is one below the bend, and at the bend or above if there is none
+-- where a search from below ends: at the crossing, if there is one below the bend, and at the bend if there is none
 pub record ClimbsTo (a b z : ℕ) : Type 0 where
   pub not-positive : NotPositiveTo a b z
   pub found : z < bend → minus a b (z + 1) < plus a (z + 1)
+  pub to-bend : z ≤ bend

@@ -1,33 +1,12 @@
-// Two tests that spare a search. Neither takes a step, and neither trusts what it is given.
+// A test that spares the search from below. It takes no step, and trusts nothing that it is given.
 ghost use mathlib.Core.Path.{_≡_};
 ghost use mathlib.Core.Bool.{true};
 ghost use Prim.Native.Nat.{_-_};
 ghost use Rattle.cubic.specs.Cubic.{N};
 ghost use Rattle.cubic.specs.Promise.{Within};
-ghost use Rattle.cubic.specs.Sides.{GasSide, Crosses, FallsTo, Alone};
-use crate::sides::BEND;
-use crate::sides::GRID;
-use crate::sides::minus;
-use crate::sides::plus;
-
-// Whether z is a crossing. From the bend on there is at most one, so it is then the gas root.
-pub(crate) fn crosses(a: u64, b: u64, z: u64) -> bool
-    requires { ⌜ Within a b × GasSide b z ⌝ }
-    ensures { λ r. ⌜ (r ≡ true → Crosses a b z) ⌝ }
-{
-    let next = z + 1;
-    let plus_here = plus(a, z);
-    let minus_here = minus(a, b, z);
-    let plus_next = plus(a, next);
-    let minus_next = minus(a, b, next);
-    if minus_here < plus_here {
-        return false;
-    }
-    if plus_next <= minus_next {
-        return false;
-    }
-    true
-}
+ghost use Rattle.cubic.specs.Sides.{FallsTo, Alone};
+use searches::BEND;
+use searches::GRID;
 
 // N less a place, and 0 from N on.
 fn left_to_grid(z: u64) -> u64
@@ -51,8 +30,5 @@ pub(crate) fn alone(a: u64, b: u64, gas: u64) -> bool
         return false;
     }
     let sum = left_to_grid(gas);
-    if 4 * GRID * a * b < sum * sum * gas {
-        return false;
-    }
-    true
+    sum * sum * gas <= 4 * GRID * a * b
 }

@@ -1,4 +1,4 @@
--- Laws of whole numbers that two crates or more would otherwise each prove.
+-- Laws of whole numbers that belong to no subject.
 pub mod Search
 pub mod Squares
 pub mod Quotients

@@ -1,1 +1,2 @@
-// Laws of whole numbers that belong to no subject (proofs/), for every crate that needs one. It has no code.
+// Laws of whole numbers that belong to no subject (proofs/), each stated once for all crates that use it. It
+// has no code.

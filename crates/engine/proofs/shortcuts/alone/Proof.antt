@@ -1,14 +1,14 @@
--- `engine::shortcuts::alone` meets its contract: past its tests lies what shows a crossing alone (`Spared.antt`). A crossing lies on the grid, which
--- bounds the products. Assumes nothing.
+-- `engine::shortcuts::alone` meets its contract: past its tests lies what shows a crossing alone (`Spared.antt` of `cubic`). A crossing lies on the
+-- grid, which bounds the products. Assumes nothing.
 use mathlib.Core.Bool.{false≢true}
 use Prim.Native.Nat.{_≤_}
 use native.Mathlib.Nat.{mul-le-mul}
 use native.Mathlib.Omega.{arith}
+use borrow.Author.Tests.{leb-true}
 use Rattle.cubic.specs.Cubic.{N}
 use Rattle.cubic.specs.Sides.{plus, minus, farthest}
 use Rattle.cubic.proofs.Widths.{monomials}
 use Rattle.cubic.proofs.Spared.{on-grid, not-positive-below}
-use borrow.Author.Needs.{needs}
 use Rattle.engine.proofs.shortcuts.alone.Statement.{statement}
 use Rattle.engine.proofs.shortcuts.alone.Tie as tie
 
@@ -26,35 +26,31 @@ returns : tie.Need-returns
 returns c said = absurd (false≢true said)
 
 left-to-grid-requires : tie.Need-left-to-grid-requires
-left-to-grid-requires c κs = search needs
+left-to-grid-requires c κs = tt
 
-mul-if2 : tie.Need-mul-if2
-mul-if2 c = search needs
+mul-result : tie.Need-mul-result
+mul-result c = omega (arith, mul-le-mul (small c) (small c))
 
-mul-if2-2 : tie.Need-mul-if2-2
-mul-if2-2 c = search needs
+mul-result-2 : tie.Need-mul-result-2
+mul-result-2 c = omega (arith, mul-le-mul (mul-le-mul (small c) (small c)) (reach c))
 
-mul-if2-3 : tie.Need-mul-if2-3
-mul-if2-3 c = omega (arith, monomials {z = 0} (c .before .before .pre .0) (omega arith))
+mul-result-3 : tie.Need-mul-result-3
+mul-result-3 c = omega arith
 
-mul-if2-4 : tie.Need-mul-if2-4
-mul-if2-4 c = omega (arith, mul-le-mul (small c) (small c))
+mul-result-4 : tie.Need-mul-result-4
+mul-result-4 c = omega arith
 
-mul-if2-5 : tie.Need-mul-if2-5
-mul-if2-5 c = omega (arith, mul-le-mul (mul-le-mul (small c) (small c)) (reach c))
+mul-result-5 : tie.Need-mul-result-5
+mul-result-5 c = omega (arith, monomials {z = 0} (c .before .before .pre .0) (omega arith))
 
 returns-2 : tie.Need-returns-2
-returns-2 c said = absurd (false≢true said)
-
-returns-3 : tie.Need-returns-3
-returns-3 c said =
-    let summed = c .before in
-    let start = summed .before .before in
+returns-2 c said =
+    let start = c .before .before in
     record {
-      from-bend = summed .before .if1 .left;
+      from-bend = c .before .if1 .left;
       not-positive =
-          not-positive-below (start .args .a) (start .args .b) (start .args .gas) (summed .left-to-grid .result)
-          (omega (arith, summed .left-to-grid .ensures)) (omega arith) (omega arith) (found (summed .before));
+          not-positive-below (start .args .a) (start .args .b) (start .args .gas) (c .left-to-grid .result)
+          (omega (arith, c .left-to-grid .ensures)) (omega (arith, leb-true)) (omega arith) (found (c .before));
     }
 
 pub alone-spec : {M : Type 1} → statement M
@@ -63,10 +59,9 @@ alone-spec =
     (tie.spec
     returns
     left-to-grid-requires
-    mul-if2
-    mul-if2-2
-    mul-if2-3
-    mul-if2-4
-    mul-if2-5
-    returns-2
-    returns-3)
+    mul-result
+    mul-result-2
+    mul-result-3
+    mul-result-4
+    mul-result-5
+    returns-2)
