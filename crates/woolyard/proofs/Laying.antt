@@ -18,13 +18,13 @@ use Rattle.sheets.specs.Figures.{sheetFigures, lineFigures}
 use Rattle.sheets.specs.Replies.{ReadsAs, LineReadsAs, shown, ShowsBack}
 use Rattle.sheets.proofs.Theorems.{reading-determined}
 use Rattle.woolyard.specs.States.{fiveOf, Laid}
-use Rattle.woolyard.specs.Heats.{heatAfter, HeatAnswers}
+use Rattle.woolyard.specs.Heats.{bitsAfter, HeatAnswers}
 use Rattle.woolyard.specs.Sheets.{readingOf, SheetAnswers, stateOf, LineAnswers}
 
 pub figures-laid : (reply : Reply) (told : Figures) → told ≡ figuresOf reply → Laid reply (told .number) (fiveOf told)
 figures-laid reply told is = record { is-number = ap (λ (f : Figures). f .number) is; is-figures = ap fiveOf is }
 
-pub heat-laid : (kelvin before : Float) (number : ℕ) (reply found : HeatCapacity) → reply ≡ found → Answers kelvin (comesBack reply) → number ≡ numberOf reply → HeatAnswers kelvin before number (heatAfter before found)
+pub heat-laid : (kelvin : Float) (before number : ℕ) (reply found : HeatCapacity) → reply ≡ found → Answers kelvin (comesBack reply) → number ≡ numberOf reply → HeatAnswers kelvin before number (bitsAfter before found)
 heat-laid kelvin before number reply found is answers is-number =
     record { reply = reply; answers = answers; is-number = is-number; leaves = rw is refl }
 

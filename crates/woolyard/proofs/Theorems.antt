@@ -18,7 +18,7 @@ use Rattle.sheets.specs.Figures.{sheetFigures, lineFigures}
 use Rattle.sheets.specs.Replies.{shown}
 use Rattle.sheets.proofs.Theorems as sheets
 use Rattle.woolyard.specs.States.{fiveOf, Laid, StateAnswers, BookAnswers}
-use Rattle.woolyard.specs.Heats.{heatAfter, HeatAnswers}
+use Rattle.woolyard.specs.Heats.{bitsAfter, HeatAnswers}
 use Rattle.woolyard.specs.Sheets.{readingOf, SheetAnswers, stateOf, LineAnswers}
 
 -- One law for the five calls: what two replies that are equal tell is equal.
@@ -62,9 +62,9 @@ refused-changes-no-book p refused =
     state.refused-changes-nothing _ _ _ _ (λ answered. refused (p .laid .is-number ∙ answered)) (p .called)
 
 -- ---- the heat capacity
-pub heat-determined : (kelvin before : Float) (number number′ : ℕ) (after after′ : Float) → HeatAnswers kelvin before number after → HeatAnswers kelvin before number′ after′ → (number ≡ number′) × (after ≡ after′)
+pub heat-determined : (kelvin : Float) (before number number′ after after′ : ℕ) → HeatAnswers kelvin before number after → HeatAnswers kelvin before number′ after′ → (number ≡ number′) × (after ≡ after′)
 heat-determined kelvin before number number′ after after′ p q =
-    told-alike numberOf (heatAfter before)
+    told-alike numberOf (bitsAfter before)
     (heat.reply-determined kelvin (p .reply) (q .reply) (p .answers) (q .answers)) (p .is-number) (q .is-number) (p .leaves) (q .leaves)
 
 -- ---- sheets

@@ -40,16 +40,17 @@ pub extern "C" fn woolyard_state_with_book(
     lay_figures(reply, figures)
 }
 
-// Hydrogen's ideal heat capacity. A refused temperature leaves the caller's double as it was.
+// Hydrogen's ideal heat capacity. The caller's double is seen as its 64 bits: a refused temperature leaves
+// each of them as it was, of a NaN too, which as a double could not be said.
 #[no_mangle]
-pub extern "C" fn woolyard_heat(kelvin: f64, heat: &mut f64) -> u64
+pub extern "C" fn woolyard_heat(kelvin: f64, heat: &mut u64) -> u64
     ensures { λ r. ⌜ HeatAnswers kelvin (now (heat .entry)) r (now (heat .exit)) ⌝ }
 {
     let reply = heat::ideal_heat_capacity(kelvin);
     let number = reply.number();
     match reply {
         HeatCapacity::KilojoulesPerKilogramKelvin(answer) => {
-            *heat = answer;
+            *heat = f64::to_bits(answer);
             number
         }
         HeatCapacity::OutOfRange => number,

@@ -1,6 +1,7 @@
 -- `woolyard::woolyard_heat` meets its contract: the double is written where the answer has one. Assumes nothing.
 use borrow.Author.Needs.{needs}
 use Rattle.heat.specs.declared.replies.HeatCapacity.the-variants.{KilojoulesPerKilogramKelvin, OutOfRange}
+use Rattle.heat.proofs.Theorems.{answer-is-no-nan}
 use Rattle.woolyard.proofs.Laying.{heat-laid}
 use Rattle.woolyard.proofs.woolyard_heat.Statement.{statement}
 use Rattle.woolyard.proofs.woolyard_heat.Tie as tie
@@ -17,6 +18,11 @@ enum-known-reply c = search needs
 enum-told : tie.Need-enum-told
 enum-told c = search needs
 
+-- an answer is no NaN, so it has its bits
+float-to-bits-heat : tie.Need-float-to-bits-heat
+float-to-bits-heat c =
+    answer-is-no-nan _ _ (rw (c .before .reply .given .1) at (c .before .before .before .before .«ideal-heat-capacity» .ensures))
+
 returns : tie.Need-returns
 returns c =
     let called = c .before .before .before in
@@ -29,4 +35,4 @@ returns-2 c =
 
 pub woolyard-heat-spec : {M : Type 1} → statement M
 woolyard-heat-spec =
-    tie.close (tie.spec ideal-heat-capacity-requires number-requires enum-known-reply enum-told returns returns-2)
+    tie.close (tie.spec ideal-heat-capacity-requires number-requires enum-known-reply float-to-bits-heat enum-told returns returns-2)
