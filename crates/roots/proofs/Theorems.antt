@@ -23,6 +23,9 @@ use Rattle.roots.specs.Promise.{Found, finding, HasRoots, Finds}
 pub within : {fluid : Fluid} {millikelvin pascals : ℕ} {reduced : Reduced} → Accepted fluid millikelvin pascals → Reduces fluid millikelvin pascals reduced → Within (reduced .a) (reduced .b)
 within accepted reduces = omega (arith, a-at-most accepted reduces, b-at-most accepted reduces)
 
+pub finds : {number millikelvin pascals : ℕ} (found : Found) → NoneOf (stateChecks number millikelvin pascals) → HasRoots number millikelvin pascals found → Finds number millikelvin pascals (with-value found)
+finds found none roots = (none, roots)
+
 findingOf : Outcome Found → Finding
 findingOf (with-value found) = Finding.Roots (found .fluid) (found .gas) (found .dense)
 findingOf (with-number refusal) = Finding.Refused (refusalOf refusal)

@@ -3,7 +3,7 @@ use native.Mathlib.Omega.{arith}
 use Rattle.fluid.specs.Promise.{ReducesTo}
 use Rattle.refusals.specs.Checks.{with-value}
 use Rattle.fluid.proofs.Accepting.{accepts}
-use Rattle.roots.proofs.Theorems.{within}
+use Rattle.roots.proofs.Theorems.{within, finds}
 use borrow.Author.Needs.{needs}
 use Rattle.roots.proofs.find.Statement.{statement}
 use Rattle.roots.proofs.find.Tie as tie
@@ -34,7 +34,8 @@ returns-2 c =
     let fluid = c .before .before in
     let state = reached fluid in
     let roots = c .both-roots .ensures in
-    (state .0, record { is-number = state .1 .is-number; reduced = fluid .fluid .given .0 .1 .0; reduces = state .1 .reduces; is-gas = roots .is-gas; is-dense = roots .is-dense })
+    finds (record { fluid = fluid .fluid .given .0 .0; gas = c .both-roots .result .gas; dense = c .both-roots .result .dense }) (state .0)
+    (record { is-number = state .1 .is-number; reduced = fluid .fluid .given .0 .1 .0; reduces = state .1 .reduces; is-gas = roots .is-gas; is-dense = roots .is-dense })
 
 pub find-spec : {M : Type 1} → statement M
 find-spec =
