@@ -73,3 +73,7 @@ refusal-of-number NoSuchFluid = refl
 refusal-of-number TemperatureOutOfRange = refl
 refusal-of-number PressureOutOfRange = refl
 refusal-of-number NoSuchSlot = refl
+
+-- two answers that keep what `number` promises are equal
+pub number-determined : (refusal : Refusal) {number other : ℕ} → number ≡ numberOfRefusal refusal → other ≡ numberOfRefusal refusal → number ≡ other
+number-determined refusal p q = p ∙ sym q

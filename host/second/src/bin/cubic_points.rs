@@ -28,7 +28,7 @@ fn main() -> io::Result<()> {
     }
 }
 
-/// The bounds that `cubic::solve` documents, and the scan's.
+/// The bounds that `engine::solve` documents, and the scan's.
 fn within(a: u64, b: u64) -> bool {
     a <= LARGEST_A && b <= LARGEST_B
 }
