@@ -11,13 +11,13 @@ use Rattle.sheets.specs.declared.State.{State}
 use Rattle.sheets.specs.declared.Cursor.{Cursor}
 use Rattle.sheets.specs.declared.Next.{Next}
 use Rattle.sheets.specs.declared.Next.the-variants as Next
-use Rattle.replies.specs.declared.Reading.{Reading}
-use Rattle.replies.specs.declared.Reading.the-variants.{StateLines, Malformed, TooLong}
+use Rattle.readings.specs.declared.Reading.{Reading}
+use Rattle.readings.specs.declared.Reading.the-variants.{StateLines, Malformed, TooLong}
 use Rattle.sheets.specs.Grammar.{sumOfCounts}
 use Rattle.sheets.specs.Reading.{start, Comes}
-use Rattle.replies.specs.Replies as replies
-use Rattle.replies.proofs.Answers.{good-passes, long-told, fault-told}
-use Rattle.replies.proofs.Nexts.{NextIn}
+use Rattle.readings.specs.Replies as replies
+use Rattle.readings.proofs.Answers.{good-passes, long-told, fault-told}
+use Rattle.readings.proofs.Nexts.{NextIn}
 use Rattle.sheets.proofs.Passed.{Passed, none-passed, one-passed, all-passed}
 use Rattle.sheets.proofs.Written.{read-good}
 use Rattle.printing.specs.Prints.{LinesText, Prints}

@@ -3,11 +3,11 @@ use mathlib.Core.Path.{_≡_, sym, ap, ap₂, subst, _∙_}
 use mathlib.Core.List.{List, [], _∷_, _++_}
 use Prim.Native.Nat.{ℕ}
 use Rattle.sheets.specs.declared.State.{State}
-use Rattle.replies.specs.declared.Reading.{Reading}
-use Rattle.replies.specs.declared.Reading.the-variants.{StateLines, Malformed, TooLong}
+use Rattle.readings.specs.declared.Reading.{Reading}
+use Rattle.readings.specs.declared.Reading.the-variants.{StateLines, Malformed, TooLong}
 use Rattle.sheets.specs.Grammar.{Pair, statesFrom}
 use Rattle.sheets.proofs.Theorems.{written-once}
-use Rattle.replies.proofs.Theorems.{reading-determined}
+use Rattle.readings.proofs.Theorems.{reading-determined}
 use Rattle.wording.proofs.Theorems.{line-once, fault-once}
 use Rattle.printing.specs.Prints.{LinesText, ReadingText, Prints}
 

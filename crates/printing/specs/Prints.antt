@@ -3,11 +3,11 @@ use mathlib.Core.Path.{_≡_}
 use mathlib.Core.List.{List, [], _∷_, _++_}
 use Prim.Native.Nat.{ℕ}
 use Rattle.sheets.specs.declared.State.{State}
-use Rattle.replies.specs.declared.Reading.{Reading}
-use Rattle.replies.specs.declared.Reading.the-variants.{StateLines, Malformed, TooLong}
+use Rattle.readings.specs.declared.Reading.{Reading}
+use Rattle.readings.specs.declared.Reading.the-variants.{StateLines, Malformed, TooLong}
 use Rattle.sheets.specs.Grammar.{Pair, Good, statesFrom}
-use Rattle.replies.specs.Replies.{ReadsAs}
-use Rattle.replies.specs.Figures.{sheetFigures}
+use Rattle.readings.specs.Replies.{ReadsAs}
+use Rattle.readings.specs.Figures.{sheetFigures}
 use Rattle.wording.specs.Wording.{LineText, FaultText}
 
 -- one line a state, in the order of the sheet

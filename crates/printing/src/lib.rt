@@ -7,7 +7,7 @@ ghost use Rattle.texts.specs.Texts.{Exactly};
 ghost use Rattle.texts.specs.Buffer.{longestLine, Puts, bytesOf, Sized};
 ghost use Rattle.printing.specs.Prints.{Prints};
 ghost use Rattle.printing.specs.Buffer.{longestText};
-use replies::Reading;
+use readings::Reading;
 use sheets::Next;
 use texts::Text;
 use wording::fault_text;

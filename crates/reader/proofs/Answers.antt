@@ -13,12 +13,12 @@ use Rattle.sheets.specs.declared.State.{State}
 use Rattle.sheets.specs.Grammar.{sumOfCounts}
 use Rattle.sheets.proofs.Written.{Written, read-good, states-counted}
 use Rattle.sheets.proofs.Theorems.{written-once}
-use Rattle.replies.specs.declared.Reading.{Reading}
-use Rattle.replies.specs.declared.Reading.the-variants as Reading
-use Rattle.replies.specs.declared.LineReading.the-variants as LineReading
-use Rattle.replies.specs.Figures.{sheetAnswered, sheetFigures, lineAnswered, lineFigures}
-use Rattle.replies.specs.Replies.{NoLine, sheetChecks, ReadsAs, LineReadsAs, shown, ShowsBack}
-use Rattle.replies.proofs.Answers.{good-passes, long-told, fault-told}
+use Rattle.readings.specs.declared.Reading.{Reading}
+use Rattle.readings.specs.declared.Reading.the-variants as Reading
+use Rattle.readings.specs.declared.LineReading.the-variants as LineReading
+use Rattle.readings.specs.Figures.{sheetAnswered, sheetFigures, lineAnswered, lineFigures}
+use Rattle.readings.specs.Replies.{NoLine, sheetChecks, ReadsAs, LineReadsAs, shown, ShowsBack}
+use Rattle.readings.proofs.Answers.{good-passes, long-told, fault-told}
 use Rattle.reader.specs.Inside.{zeros, Counted, Finds}
 
 getD-getElem : (states : List State) (k : ℕ) → k < length states → getElem? states k ≡ some (getD states k zeros)

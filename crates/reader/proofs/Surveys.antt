@@ -11,8 +11,8 @@ use Rattle.sheets.specs.declared.Next.{Next}
 use Rattle.sheets.specs.declared.Next.the-variants as Next
 use Rattle.sheets.specs.Grammar.{sections, mostStates}
 use Rattle.sheets.specs.Reading.{start, Comes, FaultAt}
-use Rattle.replies.specs.Replies.{mostBytes}
-use Rattle.replies.proofs.Nexts.{NextIn}
+use Rattle.readings.specs.Replies.{mostBytes}
+use Rattle.readings.proofs.Nexts.{NextIn}
 use Rattle.reader.specs.Inside.{zeros, Counted}
 use Rattle.sheets.proofs.Passed.{Passed, none-passed, one-passed, all-passed}
 

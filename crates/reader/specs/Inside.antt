@@ -6,9 +6,9 @@ use lib.ListN.{length, getD}
 use Rattle.sheets.specs.declared.State.{State}
 use Rattle.sheets.specs.declared.Next.the-variants as Next
 use Rattle.sheets.specs.Reading.{start, Reads, FaultAt}
-use Rattle.replies.specs.declared.Reading.{Reading}
-use Rattle.replies.specs.declared.Reading.the-variants as Reading
-use Rattle.replies.specs.Replies.{mostBytes, TooLong}
+use Rattle.readings.specs.declared.Reading.{Reading}
+use Rattle.readings.specs.declared.Reading.the-variants as Reading
+use Rattle.readings.specs.Replies.{mostBytes, TooLong}
 use Rattle.reader.specs.declared.Found.{Found}
 
 abbrev pub zeros : State

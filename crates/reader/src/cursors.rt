@@ -2,8 +2,8 @@
 // that was read.
 ghost use mathlib.Core.Path.{_≡_};
 ghost use Rattle.sheets.specs.Reading.{start};
-ghost use Rattle.replies.specs.Figures.{nextFigures};
-ghost use Rattle.replies.specs.Replies.{NextIs};
+ghost use Rattle.readings.specs.Figures.{nextFigures};
+ghost use Rattle.readings.specs.Replies.{NextIs};
 use lines::line_at;
 use sheets::Cursor;
 use sheets::Line;

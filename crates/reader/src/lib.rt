@@ -3,14 +3,14 @@
 mod cursors;
 
 ghost use mathlib.Core.Path.{_≡_};
-ghost use Rattle.replies.specs.Figures.{sheetFigures, lineFigures};
-ghost use Rattle.replies.specs.Replies.{ReadsAs, LineReadsAs, ShowsBack};
+ghost use Rattle.readings.specs.Figures.{sheetFigures, lineFigures};
+ghost use Rattle.readings.specs.Replies.{ReadsAs, LineReadsAs, ShowsBack};
 ghost use Rattle.reader.specs.Inside.{Surveys};
 pub use cursors::next;
 pub use cursors::start;
 use digests::scan;
-use replies::LineReading;
-use replies::Reading;
+use readings::LineReading;
+use readings::Reading;
 use sheets::Digest;
 use sheets::Next;
 use sheets::State;

@@ -10,13 +10,13 @@ use Rattle.state.specs.Figures.{figuresOf}
 use Rattle.heat.specs.declared.replies.HeatCapacity.{HeatCapacity}
 use Rattle.heat.specs.Replies.{comesBack, numberOf}
 use Rattle.heat.specs.Promise.{Answers}
-use Rattle.replies.specs.declared.Reading.{Reading}
-use Rattle.replies.specs.declared.LineReading.{LineReading}
-use Rattle.replies.specs.declared.SheetFigures.{SheetFigures}
-use Rattle.replies.specs.declared.LineFigures.{LineFigures}
-use Rattle.replies.specs.Figures.{sheetFigures, lineFigures}
-use Rattle.replies.specs.Replies.{ReadsAs, LineReadsAs, shown, ShowsBack}
-use Rattle.replies.proofs.Theorems.{figures-determined}
+use Rattle.readings.specs.declared.Reading.{Reading}
+use Rattle.readings.specs.declared.LineReading.{LineReading}
+use Rattle.readings.specs.declared.SheetFigures.{SheetFigures}
+use Rattle.readings.specs.declared.LineFigures.{LineFigures}
+use Rattle.readings.specs.Figures.{sheetFigures, lineFigures}
+use Rattle.readings.specs.Replies.{ReadsAs, LineReadsAs, shown, ShowsBack}
+use Rattle.readings.proofs.Theorems.{figures-determined}
 use Rattle.woolyard.specs.States.{fiveOf, Laid}
 use Rattle.woolyard.specs.Heats.{heatAfter, HeatAnswers}
 use Rattle.woolyard.specs.Sheets.{readingOf, SheetAnswers, stateOf, LineAnswers}

@@ -11,11 +11,11 @@ use Rattle.state.specs.Book.{Placed}
 use Rattle.state.proofs.Theorems as state
 use Rattle.heat.specs.Replies.{numberOf}
 use Rattle.heat.proofs.Theorems as heat
-use Rattle.replies.specs.declared.Reading.{Reading}
-use Rattle.replies.specs.declared.LineReading.{LineReading}
-use Rattle.replies.specs.Figures.{sheetFigures, lineFigures}
-use Rattle.replies.specs.Replies.{shown}
-use Rattle.replies.proofs.Theorems as replies
+use Rattle.readings.specs.declared.Reading.{Reading}
+use Rattle.readings.specs.declared.LineReading.{LineReading}
+use Rattle.readings.specs.Figures.{sheetFigures, lineFigures}
+use Rattle.readings.specs.Replies.{shown}
+use Rattle.readings.proofs.Theorems as replies
 use Rattle.woolyard.specs.States.{fiveOf, Laid, StateAnswers, BookAnswers}
 use Rattle.woolyard.specs.Heats.{heatAfter, HeatAnswers}
 use Rattle.woolyard.specs.Sheets.{readingOf, SheetAnswers, stateOf, LineAnswers}

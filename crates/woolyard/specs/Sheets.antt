@@ -3,12 +3,12 @@ use mathlib.Core.Path.{_≡_}
 use mathlib.Core.List.{List, _∷_, []}
 use Prim.Native.Nat.{ℕ}
 use lib.ListN.{length}
-use Rattle.replies.specs.declared.Reading.{Reading}
-use Rattle.replies.specs.declared.LineReading.{LineReading}
-use Rattle.replies.specs.declared.SheetFigures.{SheetFigures}
-use Rattle.replies.specs.declared.LineFigures.{LineFigures}
-use Rattle.replies.specs.Figures.{sheetFigures, lineFigures}
-use Rattle.replies.specs.Replies.{ReadsAs, LineReadsAs, shown}
+use Rattle.readings.specs.declared.Reading.{Reading}
+use Rattle.readings.specs.declared.LineReading.{LineReading}
+use Rattle.readings.specs.declared.SheetFigures.{SheetFigures}
+use Rattle.readings.specs.declared.LineFigures.{LineFigures}
+use Rattle.readings.specs.Figures.{sheetFigures, lineFigures}
+use Rattle.readings.specs.Replies.{ReadsAs, LineReadsAs, shown}
 
 -- state lines, place, length of the faulty line
 abbrev pub readingOf : SheetFigures → (line-length : ℕ) → List ℕ

@@ -1,10 +1,10 @@
 // What the five functions lay before their caller, beyond what the libraries already tell.
 ghost use mathlib.Core.Path.{_≡_};
 ghost use lib.ListN.{length};
-ghost use Rattle.replies.specs.Figures.{sheetFigures};
-ghost use Rattle.replies.specs.Replies.{ReadsAs, shown};
+ghost use Rattle.readings.specs.Figures.{sheetFigures};
+ghost use Rattle.readings.specs.Replies.{ReadsAs, shown};
 ghost use Rattle.woolyard.specs.States.{Laid};
-use replies::Reading;
+use readings::Reading;
 use state::Reply;
 
 // The paper's number of a reply. Its kind, its roots and its densities go to the caller's array.

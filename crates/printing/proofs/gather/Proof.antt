@@ -6,7 +6,7 @@ use native.Mathlib.Omega.{arith}
 use borrow.Author.Needs.{needs}
 use lib.ListN.{length}
 use Rattle.sheets.specs.declared.Next.the-variants as Next
-use Rattle.replies.proofs.Nexts.{NextIn, next-came}
+use Rattle.readings.proofs.Nexts.{NextIn, next-came}
 use Rattle.sheets.proofs.Walks.{comes-moves}
 use Rattle.texts.proofs.Buffers.{puts-written}
 use Rattle.printing.proofs.Gathered.{Gathered, begins, has-room, gathers, prints-all, prints-fault, prints-too-long}

@@ -2,8 +2,8 @@
 use mathlib.Core.Path.{refl}
 use native.Mathlib.Omega.{arith}
 use Rattle.sheets.proofs.Faults.{Lies, lies, is-part}
-use Rattle.replies.specs.declared.Reading.the-variants.{StateLines, Malformed, TooLong}
-use Rattle.replies.proofs.Theorems.{fault-found}
+use Rattle.readings.specs.declared.Reading.the-variants.{StateLines, Malformed, TooLong}
+use Rattle.readings.proofs.Theorems.{fault-found}
 use Rattle.reader.proofs.Answers.{shows-back}
 use borrow.Author.Needs.{needs}
 use Rattle.reader.proofs.faulty_line.Statement.{statement}

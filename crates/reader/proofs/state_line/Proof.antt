@@ -1,6 +1,6 @@
 -- `reader::state_line` meets its contract: the line that the whole pass kept is line k of the lists that write to the sheet. Assumes nothing.
 use Rattle.reader.specs.Inside.{Counted}
-use Rattle.replies.proofs.Answers.{long-told, fault-told}
+use Rattle.readings.proofs.Answers.{long-told, fault-told}
 use Rattle.reader.proofs.Answers.{line-found, line-missing}
 use borrow.Author.Needs.{needs}
 use Rattle.reader.proofs.state_line.Statement.{statement}

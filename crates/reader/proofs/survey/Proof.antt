@@ -7,7 +7,7 @@ use native.Mathlib.Omega.{arith}
 use borrow.Author.Needs.{needs}
 use lib.ListN.{length}
 use Rattle.sheets.specs.declared.Next.the-variants as Next
-use Rattle.replies.proofs.Nexts.{NextIn, next-came}
+use Rattle.readings.proofs.Nexts.{NextIn, next-came}
 use Rattle.sheets.proofs.Walks.{comes-moves}
 use Rattle.reader.proofs.Surveys.{Walked, begins, few, walks-here, walks-past, found-all, found-fault}
 use Rattle.reader.proofs.survey.Statement.{statement}

@@ -10,7 +10,7 @@ use Rattle.sheets.specs.declared.Line.the-variants.{Count, Told}
 use Rattle.sheets.specs.Grammar.{sections}
 use Rattle.sheets.specs.Reading.{CountLine, Here, Comes, behind-count, here}
 use Rattle.sheets.proofs.Meets.{stands-as}
-use Rattle.replies.proofs.Nexts.{long-next, told-next}
+use Rattle.readings.proofs.Nexts.{long-next, told-next}
 use Rattle.reader.proofs.cursors.next.Statement.{statement}
 use Rattle.reader.proofs.cursors.next.Tie as tie
 

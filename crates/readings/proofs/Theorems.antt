@@ -16,16 +16,16 @@ use Rattle.sheets.specs.Reading.{FaultAt}
 use Rattle.sheets.proofs.Written.{states-counted}
 use Rattle.sheets.proofs.Faults.{good-has-no-fault, good-or-fault}
 use Rattle.sheets.proofs.Theorems.{written-once}
-use Rattle.replies.specs.declared.Reading.{Reading}
-use Rattle.replies.specs.declared.Reading.the-variants as Reading
-use Rattle.replies.specs.declared.LineReading.{LineReading}
-use Rattle.replies.specs.declared.SheetFigures.{SheetFigures}
-use Rattle.replies.specs.declared.LineFigures.{LineFigures}
-use Rattle.replies.specs.Figures.{sheetRefused, sheetFigures, lineRefused, lineFigures, nextFigures}
-use Rattle.replies.specs.Replies.{mostBytes, NoSheet, sheetChecks, lineChecks, countOf, lineIn, ReadsAs, LineReadsAs, NextIs, shown, ShowsBack}
-use Rattle.replies.proofs.Figures.{same-reading, same-line}
-use Rattle.replies.proofs.Answers.{good-passes, long-told, fault-told, told-once}
-use Rattle.replies.proofs.Nexts.{next-once}
+use Rattle.readings.specs.declared.Reading.{Reading}
+use Rattle.readings.specs.declared.Reading.the-variants as Reading
+use Rattle.readings.specs.declared.LineReading.{LineReading}
+use Rattle.readings.specs.declared.SheetFigures.{SheetFigures}
+use Rattle.readings.specs.declared.LineFigures.{LineFigures}
+use Rattle.readings.specs.Figures.{sheetRefused, sheetFigures, lineRefused, lineFigures, nextFigures}
+use Rattle.readings.specs.Replies.{mostBytes, NoSheet, sheetChecks, lineChecks, countOf, lineIn, ReadsAs, LineReadsAs, NextIs, shown, ShowsBack}
+use Rattle.readings.proofs.Figures.{same-reading, same-line}
+use Rattle.readings.proofs.Answers.{good-passes, long-told, fault-told, told-once}
+use Rattle.readings.proofs.Nexts.{next-once}
 
 module _ (bytes : List ℕ) where
   -- There are as many state lines as the counts say.

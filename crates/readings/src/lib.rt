@@ -1,6 +1,6 @@
 // What is answered of a sheet (document 01, "Replies"), and what the paper's table says of each case.
 ghost use mathlib.Core.Path.{_≡_};
-ghost use Rattle.replies.specs.Figures.{sheetFigures, lineFigures, lineRefused};
+ghost use Rattle.readings.specs.Figures.{sheetFigures, lineFigures, lineRefused};
 use sheets::State;
 
 // A whole sheet: how many state lines it has, or its refusal.

@@ -8,13 +8,13 @@ use Rattle.sheets.specs.declared.State.{State}
 use Rattle.sheets.specs.declared.Cursor.{Cursor}
 use Rattle.sheets.specs.declared.Next.{Next}
 use Rattle.sheets.specs.declared.Next.the-variants as Next
-use Rattle.replies.specs.declared.Reading.{Reading}
-use Rattle.replies.specs.declared.Reading.the-variants as Reading
-use Rattle.replies.specs.declared.LineReading.{LineReading}
-use Rattle.replies.specs.declared.LineReading.the-variants as LineReading
-use Rattle.replies.specs.declared.SheetFigures.{SheetFigures}
-use Rattle.replies.specs.declared.LineFigures.{LineFigures}
-use Rattle.replies.specs.Figures.{sheetFigures, lineFigures, NextFigures, nextFigures}
+use Rattle.readings.specs.declared.Reading.{Reading}
+use Rattle.readings.specs.declared.Reading.the-variants as Reading
+use Rattle.readings.specs.declared.LineReading.{LineReading}
+use Rattle.readings.specs.declared.LineReading.the-variants as LineReading
+use Rattle.readings.specs.declared.SheetFigures.{SheetFigures}
+use Rattle.readings.specs.declared.LineFigures.{LineFigures}
+use Rattle.readings.specs.Figures.{sheetFigures, lineFigures, NextFigures, nextFigures}
 
 -- what has a number: an answer, a fault, a sheet that is too long, or a line that is not there
 abbrev numbered : {Reply : Type 0} (number : ℕ) (answered malformed too-long missing : Reply) → Reply

@@ -1,8 +1,8 @@
--- `replies::LineReading::figures` gives the paper's figures of each case. Assumes nothing.
+-- `readings::LineReading::figures` gives the paper's figures of each case. Assumes nothing.
 use mathlib.Core.Path.{refl}
 use borrow.Author.Needs.{needs}
-use Rattle.replies.proofs.LineReading.figures.Statement.{statement}
-use Rattle.replies.proofs.LineReading.figures.Tie as tie
+use Rattle.readings.proofs.LineReading.figures.Statement.{statement}
+use Rattle.readings.proofs.LineReading.figures.Tie as tie
 
 enum-known-self : tie.Need-enum-known-self
 enum-known-self c = search needs

@@ -6,12 +6,12 @@ use Rattle.sheets.specs.declared.State.{State}
 use Rattle.sheets.specs.declared.Cursor.{Cursor}
 use Rattle.sheets.specs.declared.Next.{Next}
 use Rattle.sheets.specs.declared.Next.the-variants as Next
-use Rattle.replies.specs.declared.Reading.{Reading}
-use Rattle.replies.specs.declared.Reading.the-variants as Reading
-use Rattle.replies.specs.declared.LineReading.{LineReading}
-use Rattle.replies.specs.declared.LineReading.the-variants as LineReading
-use Rattle.replies.specs.declared.SheetFigures.{SheetFigures}
-use Rattle.replies.specs.declared.LineFigures.{LineFigures}
+use Rattle.readings.specs.declared.Reading.{Reading}
+use Rattle.readings.specs.declared.Reading.the-variants as Reading
+use Rattle.readings.specs.declared.LineReading.{LineReading}
+use Rattle.readings.specs.declared.LineReading.the-variants as LineReading
+use Rattle.readings.specs.declared.SheetFigures.{SheetFigures}
+use Rattle.readings.specs.declared.LineFigures.{LineFigures}
 
 -- a whole sheet
 abbrev pub sheetAnswered : (count : ℕ) → SheetFigures

@@ -12,10 +12,10 @@ use Rattle.sheets.specs.declared.Next.{Next}
 use Rattle.sheets.specs.declared.Next.the-variants as Next
 use Rattle.sheets.specs.Reading.{Comes}
 use Rattle.sheets.proofs.Walks.{comes-determined, never-too-long}
-use Rattle.replies.specs.Figures.{NextFigures, nextRefused, nextFigures}
-use Rattle.replies.specs.Replies.{mostBytes, TooLong, Came, NextIs}
-use Rattle.replies.proofs.Figures.{same-next}
-use Rattle.replies.proofs.Answers.{not-long}
+use Rattle.readings.specs.Figures.{NextFigures, nextRefused, nextFigures}
+use Rattle.readings.specs.Replies.{mostBytes, TooLong, Came, NextIs}
+use Rattle.readings.proofs.Figures.{same-next}
+use Rattle.readings.proofs.Answers.{not-long}
 
 pub record NextIn (bytes : List ℕ) (cursor : Cursor) (next : Next) : Type 0 where
   pub fits : length bytes ≤ mostBytes

@@ -14,7 +14,7 @@ use Rattle.sheets.specs.Grammar.{Pair, Good}
 use Rattle.sheets.specs.Reading.{FaultAt}
 use Rattle.sheets.proofs.Faults.{good-has-no-fault, fault-once}
 use Rattle.sheets.proofs.Theorems.{written-once}
-use Rattle.replies.specs.Replies.{mostBytes, TooLong, sheetChecks, Refused, FromLists}
+use Rattle.readings.specs.Replies.{mostBytes, TooLong, sheetChecks, Refused, FromLists}
 
 module _ (bytes : List ℕ) where
   pub not-long : length bytes ≤ mostBytes → TooLong bytes → ⊥

@@ -11,9 +11,9 @@ use Rattle.sheets.specs.declared.Cursor.{Cursor}
 use Rattle.sheets.specs.declared.Next.{Next}
 use Rattle.sheets.specs.Grammar.{Pair, Good, statesFrom, sumOfCounts}
 use Rattle.sheets.specs.Reading.{Comes, FaultAt, lineOf}
-use Rattle.replies.specs.declared.SheetFigures.{SheetFigures}
-use Rattle.replies.specs.declared.LineFigures.{LineFigures}
-use Rattle.replies.specs.Figures.{sheetAnswered, sheetRefused, lineAnswered, lineRefused, NextFigures, nextRefused, nextFigures}
+use Rattle.readings.specs.declared.SheetFigures.{SheetFigures}
+use Rattle.readings.specs.declared.LineFigures.{LineFigures}
+use Rattle.readings.specs.Figures.{sheetAnswered, sheetRefused, lineAnswered, lineRefused, NextFigures, nextRefused, nextFigures}
 
 abbrev pub mostBytes : ℕ
 mostBytes = 65536
