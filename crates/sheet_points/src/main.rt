@@ -1,4 +1,4 @@
-// Prints what `sheets` answers to each sheet of standard input, one a line: the number, the state lines and
+// Prints what `reader` answers to each sheet of standard input, one a line: the number, the state lines and
 // the place of the whole sheet, its faulty line between brackets, and then the number, the state and the
 // place for each of its state lines, for the one past the last and for the largest number there is. A
 // sheet ends at a `~`, which no sheet here holds. Last it prints how many sheets there were. The gate
@@ -18,7 +18,7 @@ fn print_after_space(number: u64) {
 }
 
 fn print_state_line(sheet: &[u8], k: u64) {
-    let reading = sheets::state_line(sheet, k);
+    let reading = reader::state_line(sheet, k);
     let figures = reading.figures();
     io::write_all(STDOUT_FILENO, b" |");
     print_after_space(figures.number);
@@ -29,13 +29,13 @@ fn print_state_line(sheet: &[u8], k: u64) {
 }
 
 fn print_sheet(sheet: &[u8]) {
-    let reading = sheets::read(sheet);
+    let reading = reader::read(sheet);
     let figures = reading.figures();
     io::print_decimal(STDOUT_FILENO, figures.number);
     print_after_space(figures.state_lines);
     print_after_space(figures.place as u64);
     io::write_all(STDOUT_FILENO, b" [");
-    io::write_all(STDOUT_FILENO, sheets::faulty_line(sheet));
+    io::write_all(STDOUT_FILENO, reader::faulty_line(sheet));
     io::write_all(STDOUT_FILENO, b"]");
     for k in 0..figures.state_lines {
         print_state_line(sheet, k);

@@ -6,8 +6,8 @@ use Prim.Native.Nat.{ℕ, zero, suc, _+_, _-_, _*_, _/_, _%_, _≤_, _<_}
 use native.Mathlib.Omega.{arith}
 use lib.Dec.{ltb, leb, eqb}
 use borrow.Author.Tests.{ltb-false, leb-false, eqb-false, lt-ltb, le-ltb, lt-leb, ne-eqb}
-use Rattle.sheets.specs.declared.digests.Number.{Number}
-use Rattle.sheets.specs.declared.digests.Number.the-variants.{Is, None}
+use Rattle.sheets.specs.declared.Number.{Number}
+use Rattle.sheets.specs.declared.Number.the-variants.{Is, None}
 use Rattle.sheets.specs.Grammar.{digit, behind, digits, decimal}
 use Rattle.sheets.specs.Digests.{tenDigits, opens, behindDigits, grows}
 

@@ -6,12 +6,12 @@ use mathlib.Core.Path.{ap}
 use native.Mathlib.Nat.{not-suc-le-zero}
 use native.Mathlib.Omega.{arith}
 use lib.ListN.{length}
-use Rattle.sheets.specs.declared.cursors.State.{State}
-use Rattle.sheets.specs.declared.cursors.Cursor.{Cursor}
-use Rattle.sheets.specs.declared.cursors.Next.{Next}
-use Rattle.sheets.specs.declared.cursors.Next.the-variants as Next
-use Rattle.sheets.specs.declared.lines.Line.{Line}
-use Rattle.sheets.specs.declared.lines.Line.the-variants.{Count, Told}
+use Rattle.sheets.specs.declared.State.{State}
+use Rattle.sheets.specs.declared.Cursor.{Cursor}
+use Rattle.sheets.specs.declared.Next.{Next}
+use Rattle.sheets.specs.declared.Next.the-variants as Next
+use Rattle.sheets.specs.declared.Line.{Line}
+use Rattle.sheets.specs.declared.Line.the-variants.{Count, Told}
 use Rattle.sheets.specs.Grammar.{sections}
 use Rattle.sheets.specs.Reading.{Comes, behind-count, here, Reads}
 use Rattle.sheets.specs.Lines.{met}

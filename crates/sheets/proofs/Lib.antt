@@ -1,4 +1,4 @@
--- The laws that belong to no one function. Each file cites only files that are named above it.
+-- The laws of the definitions. Each file cites only files that are named above it.
 pub mod Digits
 pub mod Texts
 pub mod Numerals
@@ -8,9 +8,7 @@ pub mod Meets
 pub mod Walks
 pub mod Existence
 pub mod Passed
-pub mod Surveys
 pub mod Written
 pub mod Once
-pub mod Answers
-pub mod Determined
+pub mod Faults
 pub mod Theorems

@@ -9,8 +9,8 @@ use native.Mathlib.Omega.{arith}
 use lib.Dec.{ltb}
 use lib.ListN.{length, length-append}
 use borrow.Author.Tests.{ltb-true, ltb-false, lt-ltb, ne-eqb}
-use Rattle.sheets.specs.declared.digests.Digest.{Digest}
-use Rattle.sheets.specs.declared.digests.Digest.the-variants.{Empty, First}
+use Rattle.sheets.specs.declared.Digest.{Digest}
+use Rattle.sheets.specs.declared.Digest.the-variants.{Empty, First}
 use Rattle.sheets.specs.Grammar.{elevenDigits, space, digit, behind, digits, decimal, Writable}
 use Rattle.sheets.specs.Numerals.{EachDigit, Numeral, readsOn, valueOf}
 use Rattle.sheets.specs.Digests.{opens, grows, firstOf, takes}

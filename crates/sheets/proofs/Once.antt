@@ -7,8 +7,8 @@ use native.Mathlib.Nat.{suc-inj, suc-ne-zero}
 use native.Mathlib.Omega.{arith}
 use lib.ListN.{length, drop}
 use lib.Seq.{append-snoc, drop-append-add}
-use Rattle.sheets.specs.declared.digests.Digest.{Digest}
-use Rattle.sheets.specs.declared.digests.Digest.the-variants.{Empty, First, AfterSpace, Second, Bad}
+use Rattle.sheets.specs.declared.Digest.{Digest}
+use Rattle.sheets.specs.declared.Digest.the-variants.{Empty, First, AfterSpace, Second, Bad}
 use Rattle.sheets.specs.Grammar.{mostStates, lineEnd, decimal, Writable, Pair, WritablePair, pairText, line, stateLines, section, sheet, EachWritable, EachSection}
 use Rattle.sheets.specs.Digests.{takes}
 use Rattle.sheets.proofs.Texts.{first-read, pair-read}

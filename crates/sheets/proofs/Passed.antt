@@ -6,10 +6,10 @@ use Prim.Native.Nat.{ℕ, suc, _+_, _*_, _≤_}
 use native.Mathlib.Omega.{arith}
 use lib.ListN.{length, length-append}
 use lib.Seq.{append-snoc}
-use Rattle.sheets.specs.declared.cursors.State.{State}
-use Rattle.sheets.specs.declared.cursors.Cursor.{Cursor}
-use Rattle.sheets.specs.declared.cursors.Next.{Next}
-use Rattle.sheets.specs.declared.cursors.Next.the-variants as Next
+use Rattle.sheets.specs.declared.State.{State}
+use Rattle.sheets.specs.declared.Cursor.{Cursor}
+use Rattle.sheets.specs.declared.Next.{Next}
+use Rattle.sheets.specs.declared.Next.the-variants as Next
 use Rattle.sheets.specs.Grammar.{sections, mostStates}
 use Rattle.sheets.specs.Reading.{start, CountLine, StateLine, Comes, behind-count, here, Reads}
 

@@ -6,8 +6,8 @@ use native.Mathlib.Nat.{add-zero, add-suc, suc-add}
 use lib.ListN.{length, drop, getD, drop-of-length-le}
 use lib.Seq.{drop-cons}
 use borrow.Author.Tests.{eq-eqb, ne-eqb}
-use Rattle.sheets.specs.declared.digests.Digest.{Digest}
-use Rattle.sheets.specs.declared.digests.Scanned.{Scanned}
+use Rattle.sheets.specs.declared.Digest.{Digest}
+use Rattle.sheets.specs.declared.Scanned.{Scanned}
 use Rattle.sheets.specs.Grammar.{lineEnd}
 use Rattle.sheets.specs.Digests.{takes, scans}
 

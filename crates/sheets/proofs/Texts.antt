@@ -7,10 +7,10 @@ use Prim.Native.Nat.{ℕ, zero, suc, _+_, _*_, _/_, _%_, _≤_, _<_}
 use native.Mathlib.Omega.{arith}
 use lib.Dec.{eqb, ltb}
 use borrow.Author.Tests.{eqb-true, ltb-true, ltb-false, ne-eqb, lt-ltb}
-use Rattle.sheets.specs.declared.digests.Digest.{Digest}
-use Rattle.sheets.specs.declared.digests.Digest.the-variants.{Empty, First, AfterSpace, Second, Bad}
-use Rattle.sheets.specs.declared.digests.Number.{Number}
-use Rattle.sheets.specs.declared.digests.Number.the-variants.{Is, None}
+use Rattle.sheets.specs.declared.Digest.{Digest}
+use Rattle.sheets.specs.declared.Digest.the-variants.{Empty, First, AfterSpace, Second, Bad}
+use Rattle.sheets.specs.declared.Number.{Number}
+use Rattle.sheets.specs.declared.Number.the-variants.{Is, None}
 use Rattle.sheets.specs.Grammar.{elevenDigits, space, digit, behind, digits, decimal, Writable, Pair, WritablePair, pairText}
 use Rattle.sheets.specs.Digests.{tenDigits, opens, grows, firstOf, secondOf, takes}
 use Rattle.sheets.proofs.Digits.{Told, opens-told, opens-digit, GrownTold, grows-told, grows-digit, room, decimal-digit, decimal-next}

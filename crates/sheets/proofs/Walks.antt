@@ -5,12 +5,10 @@ use mathlib.Core.List.{List, [], _∷_}
 use Prim.Native.Nat.{ℕ, suc, _+_, _≤_, _<_}
 use native.Mathlib.Omega.{arith}
 use lib.ListN.{length}
-use Rattle.sheets.specs.declared.cursors.State.{State}
-use Rattle.sheets.specs.declared.cursors.Cursor.{Cursor}
-use Rattle.sheets.specs.declared.cursors.Next.{Next}
-use Rattle.sheets.specs.declared.cursors.Next.the-variants as Next
-use Rattle.sheets.specs.declared.lines.Line.{Line}
-use Rattle.sheets.specs.declared.lines.Line.the-variants.{Count, Told}
+use Rattle.sheets.specs.declared.State.{State}
+use Rattle.sheets.specs.declared.Cursor.{Cursor}
+use Rattle.sheets.specs.declared.Next.{Next}
+use Rattle.sheets.specs.declared.Next.the-variants as Next
 use Rattle.sheets.specs.Grammar.{decimal, pairText}
 use Rattle.sheets.specs.Reading.{Begins, CountLine, StateLine, Here, Comes, behind-count, here, Reads}
 use Rattle.sheets.proofs.Splits.{ends-inside}
@@ -23,48 +21,24 @@ Ends Next.Over = Unit {0}
 Ends (Next.Malformed place) = Unit {0}
 Ends Next.TooLong = Unit {0}
 
-abbrev IsCount : Line → Type 0
-IsCount (Count after) = Unit {0}
-IsCount (Told next) = ⊥
-
-abbrev countedTo : Cursor → Line → Cursor
-countedTo cursor (Count after) = after
-countedTo cursor (Told next) = cursor
-
-abbrev told : Line → Next
-told (Count after) = Next.Over
-told (Told next) = next
-
-abbrev stateOf : State → Next → State
-stateOf other (Next.State state after) = state
-stateOf other Next.Over = other
-stateOf other (Next.Malformed place) = other
-stateOf other Next.TooLong = other
-
-abbrev afterOf : Cursor → Next → Cursor
-afterOf other (Next.State state after) = after
-afterOf other Next.Over = other
-afterOf other (Next.Malformed place) = other
-afterOf other Next.TooLong = other
-
 pub record Same (states states′ : List State) (last last′ : Next) : Type 0 where
   pub same-states : states ≡ states′
   pub same-last : last ≡ last′
 
 module _ (bytes : List ℕ) where
   pub count-determined : (cursor after after′ : Cursor) → CountLine bytes cursor after → CountLine bytes cursor after′ → after ≡ after′
-  count-determined cursor after after′ line line′ =
-      ap (countedTo cursor) (sym (count-met bytes cursor after line) ∙ count-met bytes cursor after′ line′)
+  count-determined cursor after after′ line line′ = cc (count-met bytes cursor after line, count-met bytes cursor after′ line′)
 
   count-not-here : (cursor after : Cursor) (next : Next) → CountLine bytes cursor after → Here bytes cursor next → ⊥
-  count-not-here cursor after next line other = subst IsCount (sym (count-met bytes cursor after line) ∙ here-met bytes cursor next other) tt
+  count-not-here cursor after next line other =
+      let never : _≡_ {A = ℕ} 0 1 = cc (count-met bytes cursor after line, here-met bytes cursor next other) in omega arith
 
   pub comes-determined : {cursor : Cursor} {next next′ : Next} → Comes bytes cursor next → Comes bytes cursor next′ → next ≡ next′
   comes-determined {cursor} {next} {next′} (behind-count {after = after} line comes) (behind-count {after = after′} line′ comes′) =
       comes-determined comes (subst (λ (c : Cursor). Comes bytes c next′) (count-determined cursor after′ after line′ line) comes′)
   comes-determined {cursor} {next} {next′} (behind-count {after = after} line comes) (here other) = absurd (count-not-here cursor after next′ line other)
   comes-determined {cursor} {next} {next′} (here one) (behind-count {after = after} line comes) = absurd (count-not-here cursor after next line one)
-  comes-determined {cursor} {next} {next′} (here one) (here other) = ap told (sym (here-met bytes cursor next one) ∙ here-met bytes cursor next′ other)
+  comes-determined {cursor} {next} {next′} (here one) (here other) = cc (here-met bytes cursor next one, here-met bytes cursor next′ other)
 
   pub never-too-long : {cursor : Cursor} → Comes bytes cursor Next.TooLong → ⊥
   never-too-long (behind-count line comes) = never-too-long comes
@@ -118,10 +92,6 @@ module _ (bytes : List ℕ) where
   reads-determined cursor (state ∷ states) [] last last′ ends ends′ reads reads′ = absurd (subst Ends (comes-determined reads′ (reads .1)) ends′)
   reads-determined cursor (state ∷ states) (state′ ∷ states′) last last′ ends ends′ reads reads′ =
       let same = comes-determined (reads .1) (reads′ .1) in
-      let rest =
-      reads-determined (reads .0) states states′ last last′ ends ends′ (reads .2)
-      (subst (λ (c : Cursor). Reads bytes c states′ last′) (ap (afterOf cursor) (sym same)) (reads′ .2)) in
-      record {
-        same-states = ap (λ (s : State). s ∷ states) (ap (stateOf state) same) ∙ ap (λ (l : List State). state′ ∷ l) (rest .same-states);
-        same-last = rest .same-last;
-      }
+      let back : reads′ .0 ≡ reads .0 = cc in
+      let rest = reads-determined (reads .0) states states′ last last′ ends ends′ (reads .2) (subst (λ (c : Cursor). Reads bytes c states′ last′) back (reads′ .2)) in
+      record { same-states = cc; same-last = rest .same-last }

@@ -7,10 +7,10 @@ use native.Mathlib.Nat.{suc-ne-zero}
 use native.Mathlib.Omega.{arith}
 use lib.ListN.{length, drop, length-append}
 use lib.Seq.{append-snoc}
-use Rattle.sheets.specs.declared.cursors.State.{State}
-use Rattle.sheets.specs.declared.cursors.Cursor.{Cursor}
-use Rattle.sheets.specs.declared.cursors.Next.{Next}
-use Rattle.sheets.specs.declared.cursors.Next.the-variants as Next
+use Rattle.sheets.specs.declared.State.{State}
+use Rattle.sheets.specs.declared.Cursor.{Cursor}
+use Rattle.sheets.specs.declared.Next.{Next}
+use Rattle.sheets.specs.declared.Next.the-variants as Next
 use Rattle.sheets.specs.Grammar.{sections, mostStates, lineEnd, decimal, Pair, pairText, line, stateLines, section, sheet, EachWritable, EachSection, Good, ofFluid, statesFrom, sumOfCounts}
 use Rattle.sheets.specs.Reading.{start, CountLine, StateLine, IsOver, Comes, behind-count, here, Reads}
 use Rattle.sheets.proofs.Splits.{drop-behind}

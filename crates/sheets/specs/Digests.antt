@@ -1,14 +1,14 @@
--- What the private functions on digests compute. Nothing public is stated by this file.
+-- What a line's bytes come to, taken one at a time: the steps of the crate `digests`. What a line is, is not said by this file.
 use mathlib.Core.Bool.{Bool, true, false, cond}
 use mathlib.Core.List.{List, [], _∷_, foldl}
 use Prim.Native.Nat.{ℕ, suc, _+_, _-_, _*_}
 use lib.Dec.{ltb, leb, eqb}
 use lib.ListN.{length}
-use Rattle.sheets.specs.declared.digests.Digest.{Digest}
-use Rattle.sheets.specs.declared.digests.Digest.the-variants.{Empty, First, AfterSpace, Second, Bad}
-use Rattle.sheets.specs.declared.digests.Number.{Number}
-use Rattle.sheets.specs.declared.digests.Number.the-variants.{Is, None}
-use Rattle.sheets.specs.declared.digests.Scanned.{Scanned}
+use Rattle.sheets.specs.declared.Digest.{Digest}
+use Rattle.sheets.specs.declared.Digest.the-variants.{Empty, First, AfterSpace, Second, Bad}
+use Rattle.sheets.specs.declared.Number.{Number}
+use Rattle.sheets.specs.declared.Number.the-variants.{Is, None}
+use Rattle.sheets.specs.declared.Scanned.{Scanned}
 use Rattle.sheets.specs.Grammar.{lineEnd, space}
 use Rattle.sheets.specs.Reading.{lineOf}
 

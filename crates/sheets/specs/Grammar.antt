@@ -5,7 +5,7 @@ use mathlib.Core.Bool.{Bool, true, false}
 use Prim.Native.Nat.{ℕ, zero, suc, _+_, _/_, _%_, _≤_, _<_}
 use lib.Dec.{ltb}
 use lib.ListN.{length}
-use Rattle.sheets.specs.declared.cursors.State.{State}
+use Rattle.sheets.specs.declared.State.{State}
 
 -- hydrogen, then oxygen
 abbrev pub sections : ℕ

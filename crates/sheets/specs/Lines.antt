@@ -1,17 +1,17 @@
--- What the private functions on lines compute. Nothing public is stated by this file.
+-- What is met where a cursor stands: the steps of the crate `lines`. Which line may stand there is not said by this file.
 use mathlib.Core.Bool.{cond}
 use mathlib.Core.List.{List}
 use Prim.Native.Nat.{ℕ, suc, _-_}
 use lib.Dec.{ltb, leb, eqb}
 use lib.ListN.{drop}
-use Rattle.sheets.specs.declared.cursors.Cursor.{Cursor}
-use Rattle.sheets.specs.declared.cursors.Next.{Next}
-use Rattle.sheets.specs.declared.cursors.Next.the-variants as Next
-use Rattle.sheets.specs.declared.lines.Line.{Line}
-use Rattle.sheets.specs.declared.lines.Line.the-variants.{Count, Told}
-use Rattle.sheets.specs.declared.digests.Digest.{Digest}
-use Rattle.sheets.specs.declared.digests.Digest.the-variants.{Empty, First, AfterSpace, Second, Bad}
-use Rattle.sheets.specs.declared.digests.Scanned.{Scanned}
+use Rattle.sheets.specs.declared.Cursor.{Cursor}
+use Rattle.sheets.specs.declared.Next.{Next}
+use Rattle.sheets.specs.declared.Next.the-variants as Next
+use Rattle.sheets.specs.declared.Line.{Line}
+use Rattle.sheets.specs.declared.Line.the-variants.{Count, Told}
+use Rattle.sheets.specs.declared.Digest.{Digest}
+use Rattle.sheets.specs.declared.Digest.the-variants.{Empty, First, AfterSpace, Second, Bad}
+use Rattle.sheets.specs.declared.Scanned.{Scanned}
 use Rattle.sheets.specs.Grammar.{sections, mostStates}
 use Rattle.sheets.specs.Digests.{scans}
 

@@ -6,10 +6,10 @@ use mathlib.Core.Bool.{Bool, true, false}
 use Prim.Native.Nat.{ℕ, suc, _+_, _-_, _≤_, _<_}
 use lib.Dec.{eqb}
 use lib.ListN.{length, drop}
-use Rattle.sheets.specs.declared.cursors.State.{State}
-use Rattle.sheets.specs.declared.cursors.Cursor.{Cursor}
-use Rattle.sheets.specs.declared.cursors.Next.{Next}
-use Rattle.sheets.specs.declared.cursors.Next.the-variants as Next
+use Rattle.sheets.specs.declared.State.{State}
+use Rattle.sheets.specs.declared.Cursor.{Cursor}
+use Rattle.sheets.specs.declared.Next.{Next}
+use Rattle.sheets.specs.declared.Next.the-variants as Next
 use Rattle.sheets.specs.Grammar.{sections, mostStates, lineEnd, decimal, Pair, WritablePair, pairText}
 
 abbrev pub start : Cursor
@@ -66,6 +66,11 @@ pub data Comes (bytes : List ℕ) : (cursor : Cursor) (next : Next) → Type 0 w
 abbrev pub Reads : (bytes : List ℕ) (cursor : Cursor) → List State → (last : Next) → Type 0
 Reads bytes cursor [] last = Comes bytes cursor last
 Reads bytes cursor (state ∷ states) last = (after : Cursor) × Comes bytes cursor (Next.State state after) × Reads bytes after states last
+
+-- read line by line from the start, the sheet has a fault at this place
+pub record FaultAt (bytes : List ℕ) (place : ℕ) : Type 0 where
+  pub before : List State
+  pub reads : Reads bytes start before (Next.Malformed place)
 
 abbrev pub upTo : Bool → (byte : ℕ) → List ℕ → List ℕ
 upTo true byte others = []

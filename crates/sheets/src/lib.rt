@@ -1,109 +1,56 @@
-// State sheets (document 01): any bytes at all are read as the sheet that they are, or refused with the
-// number, the place and the faulty line. No byte of a sheet is written.
-mod cursors;
-mod digests;
-mod lines;
-mod replies;
+// State sheets (document 01): the values that the definitions of a sheet speak of. How a sheet is written
+// and read is defined in specs/, and what follows from that is proved in proofs/; the code that reads one
+// is the crate `reader`.
 
-ghost use mathlib.Core.Path.{_≡_};
-ghost use Rattle.sheets.specs.Replies.{ReadsAs, LineReadsAs, ShowsBack};
-ghost use Rattle.sheets.specs.Inside.{Surveys};
-use crate::digests::Digest;
-use crate::digests::scan;
-pub use cursors::Cursor;
-pub use cursors::Next;
-pub use cursors::State;
-pub use replies::LineFigures;
-pub use replies::LineReading;
-pub use replies::Reading;
-pub use replies::SheetFigures;
-
-// What one pass over a sheet finds: its reading, and the state line that was looked for.
-struct Found {
-    reading: Reading,
-    state: State,
+// A state line: the number of its section's fluid, and its two numbers as written.
+pub struct State {
+    pub fluid: u64,
+    pub millikelvin: u64,
+    pub pascals: u64,
 }
 
-// The whole sheet in one pass, and what its state line k was: a fault behind line k refuses it too.
-fn survey(sheet: &[u8], k: u64) -> Found
-    ensures { λ r. ⌜ Surveys (now (sheet .entry)) k r ⌝ }
-{
-    let mut cursor = Cursor::start();
-    let mut state_lines = 0;
-    let mut wanted = State {
-        fluid: 0,
-        millikelvin: 0,
-        pascals: 0,
-    };
-    loop {
-        match cursor.next(sheet) {
-            Next::State { state, after } => {
-                if state_lines == k {
-                    wanted = state;
-                }
-                state_lines += 1;
-                cursor = after;
-            }
-            Next::Over => {
-                return Found {
-                    reading: Reading::StateLines(state_lines),
-                    state: wanted,
-                };
-            }
-            Next::Malformed { place } => {
-                return Found {
-                    reading: Reading::Malformed { place },
-                    state: wanted,
-                };
-            }
-            Next::TooLong => {
-                return Found {
-                    reading: Reading::TooLong,
-                    state: wanted,
-                };
-            }
-        }
-    }
+// Where a reading stands, at the start of a line: how many sections were begun, how many state lines the
+// last of them still lacks, and the place of the line's first byte.
+pub struct Cursor {
+    pub begun: u64,
+    pub left: u64,
+    pub place: usize,
 }
 
-// How many state lines a sheet has, or its refusal with the place.
-pub fn read(sheet: &[u8]) -> Reading
-    ensures { λ r. ⌜ ReadsAs (now (sheet .entry)) r ⌝ }
-{
-    let found = survey(sheet, 0);
-    found.reading
+// What comes next: a state line and the cursor behind it, the end of a good sheet, or a refusal.
+pub enum Next {
+    State { state: State, after: Cursor },
+    Over,
+    Malformed { place: usize },
+    TooLong,
 }
 
-// State line k, counted from 0 through all sections, as written, in range or not.
-pub fn state_line(sheet: &[u8], k: u64) -> LineReading
-    ensures { λ r. ⌜ LineReadsAs (now (sheet .entry)) k r ⌝ }
-{
-    let found = survey(sheet, k);
-    let state = found.state;
-    let reading = found.reading;
-    match reading {
-        Reading::StateLines(state_lines) => {
-            if k < state_lines {
-                return LineReading::State(state);
-            }
-            LineReading::NoSuchLine
-        }
-        Reading::Malformed { place } => LineReading::Malformed { place },
-        Reading::TooLong => LineReading::TooLong,
-    }
+// A number with one digit more, or no number.
+pub enum Number {
+    Is(u64),
+    None,
 }
 
-// The faulty line as a part of the sheet, without its byte 10: empty where a line is missing, for a good
-// sheet and for one that is too long.
-pub fn faulty_line(sheet: &[u8]) -> &[u8]
-    ensures { λ r. ⌜ (r .ptr .0 ≡ sheet .entry .ptr .0) × ShowsBack (now (sheet .entry)) (sheet .entry .ptr .1) (r .ptr .1) (now r) ⌝ }
-{
-    match read(sheet) {
-        Reading::StateLines(_) => &sheet[0..0],
-        Reading::TooLong => &sheet[0..0],
-        Reading::Malformed { place } => {
-            let end = scan(sheet, place, Digest::Empty).end;
-            &sheet[place..end]
-        }
-    }
+// What a line's bytes come to, taken one at a time. Nothing yet; one number, and so a count line; that and
+// its space; two numbers, and so a state line; or bytes that no line of a sheet begins with.
+pub enum Digest {
+    Empty,
+    First(u64),
+    AfterSpace(u64),
+    Second { first: u64, second: u64 },
+    Bad,
+}
+
+// The line that starts at a place: its digest, where its text ends, and where the next line begins. The
+// two places are one where the bytes stop before a line's end.
+pub struct Scanned {
+    pub digest: Digest,
+    pub end: usize,
+    pub next: usize,
+}
+
+// A count line only moves the cursor; anything else is what comes next.
+pub enum Line {
+    Count(Cursor),
+    Told(Next),
 }

@@ -10,13 +10,13 @@ use Rattle.replies.specs.Figures.{figuresOf}
 use Rattle.heat.specs.declared.replies.HeatCapacity.{HeatCapacity}
 use Rattle.heat.specs.Replies.{comesBack, numberOf}
 use Rattle.heat.specs.Promise.{Answers}
-use Rattle.sheets.specs.declared.replies.Reading.{Reading}
-use Rattle.sheets.specs.declared.replies.LineReading.{LineReading}
-use Rattle.sheets.specs.declared.replies.SheetFigures.{SheetFigures}
-use Rattle.sheets.specs.declared.replies.LineFigures.{LineFigures}
-use Rattle.sheets.specs.Figures.{sheetFigures, lineFigures}
-use Rattle.sheets.specs.Replies.{ReadsAs, LineReadsAs, shown, ShowsBack}
-use Rattle.sheets.proofs.Theorems.{reading-determined}
+use Rattle.readings.specs.declared.Reading.{Reading}
+use Rattle.readings.specs.declared.LineReading.{LineReading}
+use Rattle.readings.specs.declared.SheetFigures.{SheetFigures}
+use Rattle.readings.specs.declared.LineFigures.{LineFigures}
+use Rattle.readings.specs.Figures.{sheetFigures, lineFigures}
+use Rattle.readings.specs.Replies.{ReadsAs, LineReadsAs, shown, ShowsBack}
+use Rattle.readings.proofs.Theorems.{figures-determined}
 use Rattle.woolyard.specs.States.{fiveOf, Laid}
 use Rattle.woolyard.specs.Heats.{bitsAfter, HeatAnswers}
 use Rattle.woolyard.specs.Sheets.{readingOf, SheetAnswers, stateOf, LineAnswers}
@@ -28,12 +28,12 @@ pub heat-laid : (kelvin : Float) (before number : ℕ) (reply found : HeatCapaci
 heat-laid kelvin before number reply found is answers is-number =
     record { reply = reply; answers = answers; is-number = is-number; leaves = rw is refl }
 
-pub line-laid : (bytes : List ℕ) (k : ℕ) (reply : LineReading) (told : LineFigures) → LineReadsAs bytes k reply → told ≡ lineFigures reply → LineAnswers bytes k (told .number) (stateOf told)
+pub line-laid : (bytes : List ℕ) (k : ℕ) (reply : LineReading) (told : LineFigures) → LineReadsAs bytes k (lineFigures reply) → told ≡ lineFigures reply → LineAnswers bytes k (told .number) (stateOf told)
 line-laid bytes k reply told reads-as is =
     record { reply = reply; reads-as = reads-as; is-number = ap (λ (f : LineFigures). f .number) is; is-state = ap stateOf is }
 
 -- the line's length is asked for by itself
-pub reading-laid : (bytes : List ℕ) (reply : Reading) (told : SheetFigures) (line-length : ℕ) → ReadsAs bytes reply → told ≡ sheetFigures reply → line-length ≡ length (shown bytes reply) → SheetAnswers bytes (told .number) (readingOf told line-length)
+pub reading-laid : (bytes : List ℕ) (reply : Reading) (told : SheetFigures) (line-length : ℕ) → ReadsAs bytes (sheetFigures reply) → told ≡ sheetFigures reply → line-length ≡ length (shown bytes (sheetFigures reply)) → SheetAnswers bytes (told .number) (readingOf told line-length)
 reading-laid bytes reply told line-length reads-as is is-length =
     record {
       reply = reply;
@@ -43,6 +43,6 @@ reading-laid bytes reply told line-length reads-as is is-length =
     }
 
 -- the part of the sheet that is shown back belongs to the one reading there is
-pub line-of-reading : (bytes : List ℕ) (sheet part : ℕ) (line : List ℕ) (reply : Reading) → ReadsAs bytes reply → ShowsBack bytes sheet part line → length line ≡ length (shown bytes reply)
+pub line-of-reading : (bytes : List ℕ) (sheet part : ℕ) (line : List ℕ) (reply : Reading) → ReadsAs bytes (sheetFigures reply) → ShowsBack bytes sheet part line → length line ≡ length (shown bytes (sheetFigures reply))
 line-of-reading bytes sheet part line reply reads-as shows =
-    rw (shows .is-line) (ap (λ (r : Reading). length (shown bytes r)) (reading-determined bytes (shows .reading) reply (shows .reads-as) reads-as))
+    rw (shows .is-line) (ap (λ (f : SheetFigures). length (shown bytes f)) (figures-determined bytes (shows .figures) (sheetFigures reply) (shows .reads-as) reads-as))

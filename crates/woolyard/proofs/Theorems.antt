@@ -12,11 +12,11 @@ use Rattle.replies.proofs.Theorems.{refused-carries-zeros}
 use Rattle.state.proofs.Theorems as state
 use Rattle.heat.specs.Replies.{numberOf}
 use Rattle.heat.proofs.Theorems as heat
-use Rattle.sheets.specs.declared.replies.Reading.{Reading}
-use Rattle.sheets.specs.declared.replies.LineReading.{LineReading}
-use Rattle.sheets.specs.Figures.{sheetFigures, lineFigures}
-use Rattle.sheets.specs.Replies.{shown}
-use Rattle.sheets.proofs.Theorems as sheets
+use Rattle.readings.specs.declared.Reading.{Reading}
+use Rattle.readings.specs.declared.LineReading.{LineReading}
+use Rattle.readings.specs.Figures.{sheetFigures, lineFigures}
+use Rattle.readings.specs.Replies.{shown}
+use Rattle.readings.proofs.Theorems as replies
 use Rattle.woolyard.specs.States.{fiveOf, Laid, StateAnswers, BookAnswers}
 use Rattle.woolyard.specs.Heats.{bitsAfter, HeatAnswers}
 use Rattle.woolyard.specs.Sheets.{readingOf, SheetAnswers, stateOf, LineAnswers}
@@ -71,10 +71,10 @@ heat-determined kelvin before number number′ after after′ p q =
 module _ (bytes : List ℕ) where
   pub sheet-determined : (number number′ : ℕ) (reading reading′ : List ℕ) → SheetAnswers bytes number reading → SheetAnswers bytes number′ reading′ → (number ≡ number′) × (reading ≡ reading′)
   sheet-determined number number′ reading reading′ p q =
-      told-alike (λ (r : Reading). sheetFigures r .number) (λ (r : Reading). readingOf (sheetFigures r) (length (shown bytes r)))
-      (sheets.reading-determined bytes (p .reply) (q .reply) (p .reads-as) (q .reads-as)) (p .is-number) (q .is-number) (p .is-reading) (q .is-reading)
+      told-alike (λ (r : Reading). sheetFigures r .number) (λ (r : Reading). readingOf (sheetFigures r) (length (shown bytes (sheetFigures r))))
+      (replies.reading-determined bytes (p .reply) (q .reply) (p .reads-as) (q .reads-as)) (p .is-number) (q .is-number) (p .is-reading) (q .is-reading)
 
   pub sheet-line-determined : (k number number′ : ℕ) (state state′ : List ℕ) → LineAnswers bytes k number state → LineAnswers bytes k number′ state′ → (number ≡ number′) × (state ≡ state′)
   sheet-line-determined k number number′ state state′ p q =
       told-alike (λ (r : LineReading). lineFigures r .number) (λ (r : LineReading). stateOf (lineFigures r))
-      (sheets.line-determined bytes k (p .reply) (q .reply) (p .reads-as) (q .reads-as)) (p .is-number) (q .is-number) (p .is-state) (q .is-state)
+      (replies.line-determined bytes k (p .reply) (q .reply) (p .reads-as) (q .reads-as)) (p .is-number) (q .is-number) (p .is-state) (q .is-state)

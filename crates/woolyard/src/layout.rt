@@ -1,9 +1,10 @@
 // What the five functions lay before their caller, beyond what the libraries already tell.
 ghost use mathlib.Core.Path.{_≡_};
 ghost use lib.ListN.{length};
-ghost use Rattle.sheets.specs.Replies.{ReadsAs, shown};
+ghost use Rattle.readings.specs.Figures.{sheetFigures};
+ghost use Rattle.readings.specs.Replies.{ReadsAs, shown};
 ghost use Rattle.woolyard.specs.States.{Laid};
-use sheets::Reading;
+use readings::Reading;
 use state::Reply;
 
 // The paper's number of a reply. Its kind, its roots and its densities go to the caller's array.
@@ -23,12 +24,12 @@ pub(crate) fn lay_figures(reply: Reply, figures: &mut [u64; 5]) -> u64
 
 // The faulty line is looked for only where there is one, so that a good sheet is read once.
 pub(crate) fn faulty_line_length(sheet: &[u8], reading: Reading) -> usize
-    requires { ⌜ ReadsAs (now sheet) reading ⌝ }
-    ensures { λ r. ⌜ r ≡ length (shown (now (sheet .entry)) reading) ⌝ }
+    requires { ⌜ ReadsAs (now sheet) (sheetFigures reading) ⌝ }
+    ensures { λ r. ⌜ r ≡ length (shown (now (sheet .entry)) (sheetFigures reading)) ⌝ }
 {
     match reading {
         Reading::StateLines(_) => 0,
-        Reading::Malformed { place: _ } => sheets::faulty_line(sheet).len(),
+        Reading::Malformed { place: _ } => reader::faulty_line(sheet).len(),
         Reading::TooLong => 0,
     }
 }

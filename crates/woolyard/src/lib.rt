@@ -63,7 +63,7 @@ pub extern "C" fn woolyard_heat(kelvin: f64, heat: &mut u64) -> u64
 pub extern "C" fn woolyard_sheet(sheet: &[u8], reading: &mut [u64; 3]) -> u64
     ensures { λ r. ⌜ SheetAnswers (now (sheet .entry)) r (now (reading .exit)) ⌝ }
 {
-    let reply = sheets::read(sheet);
+    let reply = reader::read(sheet);
     let told = reply.figures();
     let line_length = faulty_line_length(sheet, reply);
     *reading = [told.state_lines, told.place as u64, line_length as u64];
@@ -75,7 +75,7 @@ pub extern "C" fn woolyard_sheet(sheet: &[u8], reading: &mut [u64; 3]) -> u64
 pub extern "C" fn woolyard_sheet_line(sheet: &[u8], k: u64, state: &mut [u64; 3]) -> u64
     ensures { λ r. ⌜ LineAnswers (now (sheet .entry)) k r (now (state .exit)) ⌝ }
 {
-    let reply = sheets::state_line(sheet, k);
+    let reply = reader::state_line(sheet, k);
     let told = reply.figures();
     *state = [told.fluid, told.millikelvin, told.pascals];
     told.number

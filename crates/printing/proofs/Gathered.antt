@@ -1,0 +1,115 @@
+-- The text gathered so far: a line for each state line passed, within the room that they have. Assumes nothing.
+use mathlib.Core.Path.{_≡_, refl, sym, ap, subst, _∙_}
+use mathlib.Core.List.{List, [], _∷_, _++_, append-assoc, append-nil}
+use Prim.Native.Nat.{ℕ, _+_, _*_, _≤_}
+use native.Mathlib.Omega.{arith}
+use lib.ListN.{length, take, length-append}
+use lib.Seq.{length-take-le}
+use Rattle.io.specs.Counts.{Counts}
+use Rattle.refusals.specs.Checks.{answers}
+use Rattle.sheets.specs.declared.State.{State}
+use Rattle.sheets.specs.declared.Cursor.{Cursor}
+use Rattle.sheets.specs.declared.Next.{Next}
+use Rattle.sheets.specs.declared.Next.the-variants as Next
+use Rattle.readings.specs.declared.Reading.{Reading}
+use Rattle.readings.specs.declared.Reading.the-variants.{StateLines, Malformed, TooLong}
+use Rattle.sheets.specs.Grammar.{sumOfCounts}
+use Rattle.sheets.specs.Reading.{start, Comes}
+use Rattle.readings.specs.Replies as replies
+use Rattle.readings.proofs.Answers.{good-passes, long-told, fault-told}
+use Rattle.readings.proofs.Nexts.{NextIn}
+use Rattle.sheets.proofs.Passed.{Passed, none-passed, one-passed, all-passed}
+use Rattle.sheets.proofs.Written.{read-good}
+use Rattle.printing.specs.Prints.{LinesText, Prints}
+use Rattle.texts.specs.Buffer.{longestLine, Puts}
+use Rattle.wording.specs.Wording.{LineText, FaultText}
+use Rattle.printing.specs.Buffer.{longestText}
+
+-- one line more
+lines-on : (states : List State) (state : State) (text line : List ℕ) → LinesText states text → LineText state line → LinesText (states ++ (state ∷ [])) (text ++ line)
+lines-on [] state text line lines is-line = (line, [], is-line, refl, ap (λ (l : List ℕ). l ++ line) lines ∙ sym (append-nil line))
+lines-on (first ∷ states) state text line lines is-line = (
+  lines .0,
+  lines .1 ++ line,
+  lines .2,
+  lines-on states state (lines .1) line (lines .3) is-line,
+  ap (λ (l : List ℕ). l ++ line) (lines .4) ∙ append-assoc (lines .0) (lines .1) line,
+)
+
+pub record Gathered (bytes before : List ℕ) (cursor : Cursor) (buffer : List ℕ) (end : ℕ) : Type 0 where
+  pub states : List State
+  pub passed : Passed bytes cursor states
+  pub are-lines : LinesText states (take end buffer)
+  pub short : end ≤ longestLine * length states
+  pub same-length : length buffer ≡ length before
+
+pub begins : (bytes before : List ℕ) → Gathered bytes before start before 0
+begins bytes before = record { states = []; passed = none-passed bytes; are-lines = refl; short = omega arith; same-length = refl }
+
+-- what was put at the start of the buffer is all that is printed, and is within it
+counts : (buffer : List ℕ) (next : ℕ) → next ≤ length buffer → Counts next buffer
+counts buffer next inside = (inside, sym (length-take-le next buffer inside))
+
+module _ {bytes before : List ℕ} {cursor : Cursor} {buffer : List ℕ} {end : ℕ} (gathered : Gathered bytes before cursor buffer end) (large : longestText ≤ length before) where
+  within : end ≤ length buffer
+  within =
+      let room = gathered .passed .room in
+      omega (arith, gathered .short, gathered .same-length, room .states, room .begun)
+
+  module _ {state : State} {after : Cursor} (comes : Comes bytes cursor (Next.State state after)) where
+    on : Passed bytes after (gathered .states ++ (state ∷ []))
+    on = one-passed bytes (gathered .states) state after (gathered .passed) comes
+
+    -- the line that comes has room
+    pub has-room : end + longestLine ≤ length buffer
+    has-room =
+        let room = on .room in
+        omega (arith, gathered .short, gathered .same-length, room .states, room .begun, length-append (gathered .states) (state ∷ []))
+
+    pub gathers : {later : List ℕ} {next : ℕ} → Puts (LineText state) longestLine buffer end later next → Gathered bytes before after later next
+    gathers puts =
+        record {
+          states = gathered .states ++ (state ∷ []);
+          passed = on;
+          are-lines =
+              subst (LinesText (gathered .states ++ (state ∷ []))) (sym (puts .stands))
+              (lines-on (gathered .states) state (take end buffer) (puts .text) (gathered .are-lines) (puts .is-text));
+          short = omega (arith, gathered .short, puts .short, puts .reaches, length-append (gathered .states) (state ∷ []));
+          same-length = puts .same-length ∙ gathered .same-length;
+        }
+
+  pub prints-all : NextIn bytes cursor Next.Over → Counts end buffer × Prints bytes (take end buffer)
+  prints-all next =
+      let written = read-good bytes (gathered .states) (all-passed bytes (gathered .states) Next.Over (gathered .passed) (next .comes)) in (
+        counts buffer end within,
+        record {
+          reading = StateLines (sumOfCounts (written .lists));
+          reads-as = answers (good-passes bytes (written .lists) (next .fits) (written .good)) (record { lists = written .lists; good = written .good; is-told = refl });
+          is-text =
+              record {
+                lists = written .lists;
+                good = written .good;
+                are-lines = subst (λ (l : List State). LinesText l (take end buffer)) (written .are-states) (gathered .are-lines);
+              };
+        },
+      )
+
+  module _ {later : List ℕ} {next : ℕ} where
+    -- a fault is put at the start of the buffer, over any lines
+    alone : (reading : Reading) (puts : Puts (FaultText reading) longestLine buffer 0 later next) → Counts next later × FaultText reading (take next later)
+    alone reading puts =
+        (counts later next (omega (arith, puts .short, puts .reaches, puts .same-length, gathered .same-length)), subst (FaultText reading) (sym (puts .stands)) (puts .is-text))
+
+    pub prints-fault : (place : ℕ) → NextIn bytes cursor (Next.Malformed place) → Puts (FaultText (Malformed place)) longestLine buffer 0 later next → Counts next later × Prints bytes (take next later)
+    prints-fault place next-in puts =
+        let told = alone (Malformed place) puts in (
+          told .0,
+          record {
+            reading = Malformed place;
+            reads-as = fault-told bytes place (next-in .fits) (record { before = gathered .states; reads = all-passed bytes (gathered .states) (Next.Malformed place) (gathered .passed) (next-in .comes) });
+            is-text = told .1;
+          },
+        )
+
+    pub prints-too-long : replies.TooLong bytes → Puts (FaultText TooLong) longestLine buffer 0 later next → Counts next later × Prints bytes (take next later)
+    prints-too-long long puts = let told = alone TooLong puts in (told .0, record { reading = TooLong; reads-as = long-told bytes long; is-text = told .1 })

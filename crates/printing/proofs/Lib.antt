@@ -1,0 +1,3 @@
+-- The laws that belong to no one function.
+pub mod Gathered
+pub mod Theorems

@@ -1,0 +1,64 @@
+// What the program `sheet` prints (document 01, "State sheets"): a line for each state line, or for a refused
+// sheet only its own. The crate `wording` has what stands in a line.
+ghost use Prim.Native.Nat.{_+_, _≤_};
+ghost use lib.ListN.{length, take};
+ghost use Rattle.io.specs.Counts.{Counts};
+ghost use Rattle.texts.specs.Texts.{Exactly};
+ghost use Rattle.texts.specs.Buffer.{longestLine, Puts, bytesOf, Sized};
+ghost use Rattle.printing.specs.Prints.{Prints};
+ghost use Rattle.printing.specs.Buffer.{longestText};
+use readings::Reading;
+use sheets::Next;
+use texts::Text;
+use wording::fault_text;
+use wording::state_text;
+
+fn put(buffer: &mut [u8], at: usize, line: Text) -> usize
+    requires { ⌜ (at + longestLine ≤ length (now buffer)) × Sized line ⌝ }
+    ensures { λ r. ⌜ Puts (Exactly (bytesOf line)) longestLine (now (buffer .entry)) at (now (buffer .exit)) r ⌝ }
+{
+    let text = line.bytes;
+    let length = line.length;
+    let copied = bytes::copy(&text[..length], &mut buffer[at..]);
+    at + copied
+}
+
+// What is printed is gathered line by line in one pass, and a fault takes the place of all lines before it.
+// A sheet has at most 2,000 state lines, so the text never outgrows the buffer.
+fn gather(sheet: &[u8], buffer: &mut [u8]) -> usize
+    requires { ⌜ longestText ≤ length (now buffer) ⌝ }
+    ensures { λ r. ⌜ Counts r (now (buffer .exit)) ⌝ }
+    ensures { λ r. ⌜ Prints (now (sheet .entry)) (take r (now (buffer .exit))) ⌝ }
+{
+    let mut cursor = reader::start();
+    let mut end = 0;
+    loop {
+        match reader::next(sheet, cursor) {
+            Next::State { state, after } => {
+                let line = state_text(state);
+                end = put(buffer, end, line);
+                cursor = after;
+            }
+            Next::Over => {
+                return end;
+            }
+            Next::Malformed { place } => {
+                let line = fault_text(Reading::Malformed { place });
+                return put(buffer, 0, line);
+            }
+            Next::TooLong => {
+                let line = fault_text(Reading::TooLong);
+                return put(buffer, 0, line);
+            }
+        }
+    }
+}
+
+// The text of a sheet stands at the start of the buffer, which has room for as many lines as a sheet may
+// have. What is answered is its length; what lies behind it is not told.
+pub fn print(sheet: &[u8], buffer: &mut [u8; 96_000]) -> usize
+    ensures { λ r. ⌜ Counts r (now (buffer .exit)) ⌝ }
+    ensures { λ r. ⌜ Prints (now (sheet .entry)) (take r (now (buffer .exit))) ⌝ }
+{
+    gather(sheet, buffer)
+}

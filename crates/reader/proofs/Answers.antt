@@ -1,0 +1,70 @@
+-- From what is found in a pass over the sheet to what the contracts say of it. Assumes nothing.
+use mathlib.Core.Path.{_≡_, refl, sym, ap, subst, _∙_}
+use mathlib.Core.Logic.{_⊎_, inl}
+use mathlib.Core.List.{List, [], _∷_}
+use mathlib.Core.Option.{Option, some, Option·map}
+use Prim.Native.Nat.{ℕ, zero, suc, _+_, _≤_, _<_}
+use native.Mathlib.Nat.{not-suc-le-zero, le-of-suc-le-suc}
+use native.Mathlib.Omega.{arith}
+use lib.ListN.{length, getD, getElem?}
+use Rattle.refusals.specs.Checks.{_if_, refuses, answers}
+use Rattle.refusals.proofs.Lists.{none-both, first-behind}
+use Rattle.sheets.specs.declared.State.{State}
+use Rattle.sheets.specs.Grammar.{sumOfCounts}
+use Rattle.sheets.proofs.Written.{Written, read-good, states-counted}
+use Rattle.sheets.proofs.Theorems.{written-once}
+use Rattle.readings.specs.declared.Reading.{Reading}
+use Rattle.readings.specs.declared.Reading.the-variants as Reading
+use Rattle.readings.specs.declared.LineReading.the-variants as LineReading
+use Rattle.readings.specs.Figures.{sheetAnswered, sheetFigures, lineAnswered, lineFigures}
+use Rattle.readings.specs.Replies.{NoLine, sheetChecks, ReadsAs, LineReadsAs, shown, ShowsBack}
+use Rattle.readings.proofs.Answers.{good-passes, long-told, fault-told}
+use Rattle.reader.specs.Inside.{zeros, Counted, Finds}
+
+getD-getElem : (states : List State) (k : ℕ) → k < length states → getElem? states k ≡ some (getD states k zeros)
+getD-getElem [] k inside = absurd (not-suc-le-zero inside)
+getD-getElem (state ∷ states) zero inside = refl
+getD-getElem (state ∷ states) (suc k) inside = getD-getElem states k (le-of-suc-le-suc inside)
+
+module _ (bytes : List ℕ) (k : ℕ) where
+  module _ {count : ℕ} {state : State} (found : Counted bytes k count state) where
+    written : Written bytes (found .states)
+    written = read-good bytes (found .states) (found .reads)
+
+    is-sum : count ≡ sumOfCounts (written .lists)
+    is-sum = found .is-count ∙ ap length (written .are-states) ∙ states-counted 0 (written .lists)
+
+    pub counted : ReadsAs bytes (sheetFigures (Reading.StateLines count))
+    counted =
+        answers (good-passes bytes (written .lists) (found .fits) (written .good))
+        (record { lists = written .lists; good = written .good; is-told = ap (λ (n : ℕ). some (sheetAnswered n)) (sym is-sum) })
+
+    pub line-found : k < count → LineReadsAs bytes k (lineFigures (LineReading.State state))
+    line-found below =
+        let inside : k < length (found .states) = omega (arith, found .is-count) in
+        answers
+        (none-both (sheetChecks bytes) (16 if NoLine bytes k ∷ []) (good-passes bytes (written .lists) (found .fits) (written .good))
+        (λ no-line. omega (arith, is-sum, no-line .few, ap sumOfCounts (written-once bytes (no-line .lists) (written .lists) (no-line .good) (written .good))), tt))
+        (record {
+          lists = written .lists;
+          good = written .good;
+          is-told =
+              ap (λ (l : List State). Option·map lineAnswered (getElem? l k)) (sym (written .are-states))
+              ∙ ap (Option·map lineAnswered) (getD-getElem (found .states) k inside ∙ ap {B = Option State} some (sym (found .is-state)));
+        })
+
+    pub line-missing : count ≤ k → LineReadsAs bytes k (lineFigures LineReading.NoSuchLine)
+    line-missing above =
+        refuses 16
+        (first-behind (sheetChecks bytes) (16 if NoLine bytes k ∷ []) 16 (good-passes bytes (written .lists) (found .fits) (written .good))
+        (inl (record { lists = written .lists; good = written .good; few = omega (arith, is-sum) }, refl)))
+        (record { place = 0; is-place = refl; is-told = refl })
+
+  pub reads-as : (reading : Reading) (state : State) → Finds bytes k reading state → ReadsAs bytes (sheetFigures reading)
+  reads-as (Reading.StateLines count) state found = counted found
+  reads-as (Reading.Malformed place) state found = fault-told bytes place (found .0) (found .1)
+  reads-as Reading.TooLong state long = long-told bytes long
+
+pub shows-back : (bytes : List ℕ) (sheet part : ℕ) (line : List ℕ) {told : Reading} (reading : Reading) → told ≡ reading → ReadsAs bytes (sheetFigures told) → part ≡ sheet + sheetFigures reading .place → line ≡ shown bytes (sheetFigures reading) → ShowsBack bytes sheet part line
+shows-back bytes sheet part line reading same reads lies is-line =
+    record { figures = sheetFigures reading; reads-as = subst (λ (r : Reading). ReadsAs bytes (sheetFigures r)) same reads; lies = lies; is-line = is-line }

@@ -1,0 +1,3 @@
+-- What a reader must believe of the answers about a sheet: the paper's figures of each, and which of them any bytes at all are owed.
+pub mod Figures
+pub mod Replies

@@ -1,0 +1,4 @@
+-- The laws that belong to no one function.
+pub mod Digits
+pub mod Buffers
+pub mod Theorems

@@ -1,0 +1,42 @@
+-- `texts::two_numbers` meets its contract: its parts, one behind another, or nothing. Assumes nothing.
+use native.Mathlib.Omega.{arith}
+use borrow.Author.Needs.{needs}
+use Rattle.texts.specs.Texts.{TwoNumbers}
+use Rattle.texts.proofs.Buffers.{both, fitted, unfitted}
+use Rattle.texts.proofs.two_numbers.Statement.{statement}
+use Rattle.texts.proofs.two_numbers.Tie as tie
+
+returns : tie.Need-returns
+returns c =
+    let asked = c .before .before .args in
+    unfitted (asked .word .now) (TwoNumbers (asked .word .now) (asked .first) (asked .second)) (c .if1 .taken)
+
+slice-aggregate-put : tie.Need-slice-aggregate-put
+slice-aggregate-put c = search needs
+
+put-requires : tie.Need-put-requires
+put-requires c κs = search needs
+
+slice-aggregate-put-spaced : tie.Need-slice-aggregate-put-spaced
+slice-aggregate-put-spaced c = search needs
+
+put-spaced-requires : tie.Need-put-spaced-requires
+put-spaced-requires c κs = search needs
+
+slice-aggregate-put-last-number : tie.Need-slice-aggregate-put-last-number
+slice-aggregate-put-last-number c = search needs
+
+put-last-number-requires : tie.Need-put-last-number-requires
+put-last-number-requires c κs = search needs
+
+returns-2 : tie.Need-returns-2
+returns-2 c =
+    let few = c .before .before .before .before .before .before .before .before .before .if1 .left in
+    let asked = c .before .before .before .before .before .before .before .before .before .before .before .args in
+    fitted (asked .word .now) (TwoNumbers (asked .word .now) (asked .first) (asked .second)) few (omega arith) (omega arith)
+    (both (both (c .before .before .before .before .before .before .before .put .ensures) (c .before .before .before .before .put-spaced .ensures)) (c .before .put-last-number .ensures))
+
+pub two-numbers-spec : {M : Type 1} → statement M
+two-numbers-spec =
+    tie.close
+    (tie.spec returns slice-aggregate-put put-requires slice-aggregate-put-spaced put-spaced-requires slice-aggregate-put-last-number put-last-number-requires returns-2)

@@ -1,0 +1,46 @@
+-- Document 01, "State sheets": what is printed for a state, kind, gas root and gas density, or NO and the number; and for a refused sheet, SHEET, the
+-- number and the place.
+use mathlib.Core.Bool.{cond}
+use mathlib.Core.List.{List, [], _∷_}
+use Prim.Native.Nat.{ℕ}
+use lib.Dec.{eqb}
+use Rattle.state.specs.declared.replies.Reply.{Reply}
+use Rattle.state.specs.declared.replies.Figures.{Figures}
+use Rattle.state.specs.Figures.{figuresOf}
+use Rattle.state.specs.Replies.{Replies}
+use Rattle.sheets.specs.declared.State.{State}
+use Rattle.replies.specs.declared.Reading.{Reading}
+use Rattle.replies.specs.Figures.{sheetFigures}
+use Rattle.texts.specs.Texts.{OneNumber, TwoNumbers}
+
+-- the words, in ASCII
+abbrev pub ONE : List ℕ
+ONE = 79 ∷ 78 ∷ 69 ∷ []
+
+abbrev pub SPLIT : List ℕ
+SPLIT = 83 ∷ 80 ∷ 76 ∷ 73 ∷ 84 ∷ []
+
+abbrev pub NO : List ℕ
+NO = 78 ∷ 79 ∷ []
+
+abbrev pub SHEET : List ℕ
+SHEET = 83 ∷ 72 ∷ 69 ∷ 69 ∷ 84 ∷ []
+
+-- the line of a reply, by the paper's figures of it; kind 1 is ONE
+abbrev pub FiguresText : Figures → (text : List ℕ) → Type 0
+FiguresText figures text =
+    cond (eqb (figures .number) 0)
+    (cond (eqb (figures .kind) 1)
+    (TwoNumbers ONE (figures .«gas_root») (figures .«gas_density») text)
+    (TwoNumbers SPLIT (figures .«gas_root») (figures .«gas_density») text))
+    (OneNumber NO (figures .number) text)
+
+-- the line of a state is that of the reply to it
+pub record LineText (state : State) (text : List ℕ) : Type 0 where
+  pub reply : Reply
+  pub replies : Replies (state .fluid) (state .millikelvin) (state .pascals) reply
+  pub is-text : FiguresText (figuresOf reply) text
+
+-- the line of a fault
+abbrev pub FaultText : Reading → (text : List ℕ) → Type 0
+FaultText reading text = TwoNumbers SHEET (sheetFigures reading .number) (sheetFigures reading .place) text
