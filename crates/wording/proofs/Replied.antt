@@ -2,16 +2,16 @@
 use mathlib.Core.Path.{_≡_, subst}
 use mathlib.Core.List.{List}
 use Prim.Native.Nat.{ℕ}
-use Rattle.state.specs.declared.replies.Reply.{Reply}
-use Rattle.state.specs.declared.replies.Figures.{Figures}
-use Rattle.state.specs.Figures.{figuresOf}
+use Rattle.replies.specs.declared.Reply.{Reply}
+use Rattle.replies.specs.declared.Figures.{Figures}
+use Rattle.replies.specs.Figures.{figuresOf}
 use Rattle.state.specs.Replies.{Replies}
 use Rattle.sheets.specs.declared.State.{State}
 use Rattle.texts.specs.declared.Text.{Text}
 use Rattle.texts.specs.Buffer.{bytesOf, Written}
 use Rattle.wording.specs.Wording.{FiguresText, LineText}
 
-pub replied : {state : State} (reply : Reply) {figures : Figures} {Line : List ℕ → Type 0} {line : Text} → Replies (state .fluid) (state .millikelvin) (state .pascals) reply → figures ≡ figuresOf reply → Written Line line → ((text : List ℕ) → Line text → FiguresText figures text) → Written (LineText state) line
+pub replied : {state : State} (reply : Reply) {figures : Figures} {Line : List ℕ → Type 0} {line : Text} → Replies (state .fluid) (state .millikelvin) (state .pascals) (figuresOf reply) → figures ≡ figuresOf reply → Written Line line → ((text : List ℕ) → Line text → FiguresText figures text) → Written (LineText state) line
 replied reply {line = line} replies told written same =
     record {
       sized = written .sized;

@@ -3,13 +3,13 @@ use mathlib.Core.Path.{_≡_, subst}
 use mathlib.Core.List.{List}
 use Prim.Native.Nat.{ℕ}
 use lib.Dec.{eqb}
-use Rattle.state.specs.declared.replies.Reply.{Reply}
-use Rattle.state.specs.declared.replies.Figures.{Figures}
-use Rattle.state.specs.Figures.{figuresOf}
+use Rattle.replies.specs.declared.Reply.{Reply}
+use Rattle.replies.specs.declared.Figures.{Figures}
+use Rattle.replies.specs.Figures.{figuresOf}
 use Rattle.state.proofs.Theorems.{reply-determined}
 use Rattle.sheets.specs.declared.State.{State}
-use Rattle.replies.specs.declared.Reading.{Reading}
-use Rattle.replies.specs.Figures.{sheetFigures}
+use Rattle.readings.specs.declared.Reading.{Reading}
+use Rattle.readings.specs.Figures.{sheetFigures}
 use Rattle.texts.specs.declared.Text.{Text}
 use Rattle.texts.specs.Buffer.{bytesOf, Written}
 use Rattle.texts.proofs.Theorems.{Once, either-once, one-once, two-once}

@@ -4,13 +4,13 @@ use mathlib.Core.Bool.{cond}
 use mathlib.Core.List.{List, [], _∷_}
 use Prim.Native.Nat.{ℕ}
 use lib.Dec.{eqb}
-use Rattle.state.specs.declared.replies.Reply.{Reply}
-use Rattle.state.specs.declared.replies.Figures.{Figures}
-use Rattle.state.specs.Figures.{figuresOf}
+use Rattle.replies.specs.declared.Reply.{Reply}
+use Rattle.replies.specs.declared.Figures.{Figures}
+use Rattle.replies.specs.Figures.{figuresOf}
 use Rattle.state.specs.Replies.{Replies}
 use Rattle.sheets.specs.declared.State.{State}
-use Rattle.replies.specs.declared.Reading.{Reading}
-use Rattle.replies.specs.Figures.{sheetFigures}
+use Rattle.readings.specs.declared.Reading.{Reading}
+use Rattle.readings.specs.Figures.{sheetFigures}
 use Rattle.texts.specs.Texts.{OneNumber, TwoNumbers}
 
 -- the words, in ASCII
@@ -38,7 +38,7 @@ FiguresText figures text =
 -- the line of a state is that of the reply to it
 pub record LineText (state : State) (text : List ℕ) : Type 0 where
   pub reply : Reply
-  pub replies : Replies (state .fluid) (state .millikelvin) (state .pascals) reply
+  pub replies : Replies (state .fluid) (state .millikelvin) (state .pascals) (figuresOf reply)
   pub is-text : FiguresText (figuresOf reply) text
 
 -- the line of a fault

@@ -2,7 +2,7 @@
 // the number of its refusal; and for a refused sheet: SHEET, the number and the place.
 ghost use Rattle.texts.specs.Buffer.{Written};
 ghost use Rattle.wording.specs.Wording.{LineText, FaultText};
-use replies::Reading;
+use readings::Reading;
 use sheets::State;
 use texts::Text;
 use texts::one_number;

@@ -1,7 +1,7 @@
 -- `wording::fault_text` meets its contract: the line is made of the paper's figures of the fault. Assumes nothing.
 use mathlib.Core.Path.{subst}
 use borrow.Author.Needs.{needs}
-use Rattle.replies.specs.declared.SheetFigures.{SheetFigures}
+use Rattle.readings.specs.declared.SheetFigures.{SheetFigures}
 use Rattle.texts.specs.Texts.{TwoNumbers}
 use Rattle.texts.specs.Buffer.{Written}
 use Rattle.wording.specs.Wording.{SHEET}
