@@ -2,7 +2,7 @@
 -- gives a first that applies or none. Assumes nothing.
 use mathlib.Core.Path.{_≡_, refl, sym, ap, subst, _∙_}
 use mathlib.Core.Logic.{_⊎_, inl, inr}
-use mathlib.Core.List.{List, [], _∷_}
+use mathlib.Core.List.{List, [], _∷_, _++_}
 use mathlib.Core.Bool.{cond}
 use Prim.Native.Nat.{ℕ}
 use lib.Dec.{eqb}
@@ -46,6 +46,10 @@ pub record Decided (check : Check) : Type 0 where
 abbrev pub EachDecided : List Check → Type 0
 EachDecided [] = Unit {0}
 EachDecided (check ∷ checks) = Decided check × EachDecided checks
+
+pub decided-both : (checks more : List Check) → EachDecided checks → EachDecided more → EachDecided (checks ++ more)
+decided-both [] more decided decided-more = decided-more
+decided-both (check ∷ checks) more decided decided-more = (decided .0, decided-both checks more (decided .1) decided-more)
 
 abbrev pub First : List Check → Type 0
 First checks = (refusal : Refusal) × FirstOf checks (numberOfRefusal refusal)

@@ -7,7 +7,7 @@ use native.Mathlib.Decide.{decLt, ℕ-discrete}
 use Rattle.refusals.specs.Checks.{Check, NoneOf, Tells, refuses, answers}
 use Rattle.refusals.specs.declared.Refusal.the-variants.{NoSuchSlot}
 use Rattle.refusals.proofs.Lists.{none-front}
-use Rattle.refusals.proofs.Theorems.{EachDecided, First, first-or-none}
+use Rattle.refusals.proofs.Theorems.{EachDecided, decided-both, First, first-or-none}
 use Rattle.cubic.specs.Cubic.{Kind, ONE, SPLIT, IsKind}
 use Rattle.cubic.proofs.Theorems.{kind-exists}
 use Rattle.fluid.specs.Checks.{stateChecks}
@@ -45,8 +45,8 @@ module _ (number millikelvin pascals : ℕ) where
 
   pub slot-decided : (slot length : ℕ) → EachDecided (stateChecks number millikelvin pascals ++ slotChecks slot length)
   slot-decided slot length =
-      let state = state-decided number millikelvin pascals in
-      (state .0, (state .1 .0, (state .1 .1 .0, (record { refusal = NoSuchSlot; is-number = refl; decide = either (other (ℕ-discrete length 64)) (decLt 63 slot) }, tt))))
+      decided-both (stateChecks number millikelvin pascals) (slotChecks slot length) (state-decided number millikelvin pascals)
+      (record { refusal = NoSuchSlot; is-number = refl; decide = either (other (ℕ-discrete length 64)) (decLt 63 slot) }, tt)
     where
       other : Dec (length ≡ 64) → Dec (length ≡ 64 → ⊥)
       other (yes same) = no (λ differs. differs same)
