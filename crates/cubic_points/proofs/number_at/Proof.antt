@@ -41,16 +41,4 @@ returns c = omega arith
 
 pub number-at-spec : {M : Type 1} → statement M
 number-at-spec =
-    tie.close
-    (tie.spec
-    Inv-loop
-    μ-loop
-    loop-holds
-    shared-slice-read-byte
-    cast-with-digit
-    with-digit-requires
-    add-place
-    loop-less
-    loop-again
-    add-t11
-    returns)
+    tie.close (tie.spec Inv-loop μ-loop loop-holds shared-slice-read-byte cast-with-digit with-digit-requires add-place loop-less loop-again add-t11 returns)

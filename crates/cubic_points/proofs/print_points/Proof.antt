@@ -41,16 +41,4 @@ returns c = omega arith
 
 pub print-points-spec : {M : Type 1} → statement M
 print-points-spec =
-    tie.close
-    (tie.spec
-    Inv-loop
-    μ-loop
-    loop-holds
-    number-at-requires
-    number-at-requires-2
-    number-at-requires-3
-    print-point-requires
-    add-points
-    loop-less
-    loop-again
-    returns)
+    tie.close (tie.spec Inv-loop μ-loop loop-holds number-at-requires number-at-requires-2 number-at-requires-3 print-point-requires add-points loop-less loop-again returns)

@@ -58,15 +58,4 @@ returns-6 c =
 
 pub density-of-spec : {M : Type 1} → statement M
 density-of-spec =
-    tie.close
-    (tie.spec
-    returns
-    returns-2
-    returns-3
-    returns-4
-    returns-5
-    density-factor-requires
-    quotient-in-parts-requires
-    mul-grams
-    div-grams
-    returns-6)
+    tie.close (tie.spec returns returns-2 returns-3 returns-4 returns-5 density-factor-requires quotient-in-parts-requires mul-grams div-grams returns-6)

@@ -40,12 +40,4 @@ returns c = parts c .whole
 
 pub quotient-in-parts-spec : {M : Type 1} → statement M
 quotient-in-parts-spec =
-    tie.close
-    (tie.spec
-    div-result
-    mul-result
-    rem-result
-    mul-result-2
-    div-result-2
-    add-result
-    returns)
+    tie.close (tie.spec div-result mul-result rem-result mul-result-2 div-result-2 add-result returns)

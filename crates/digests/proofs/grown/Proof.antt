@@ -37,5 +37,4 @@ returns-4 c = simp (ne-eqb _ _ (c .before .before .before .before .before .if1 .
 
 pub grown-spec : {M : Type 1} → statement M
 grown-spec =
-    tie.close
-    (tie.spec returns returns-2 opened-requires enum-told enum-known-digit mul-t7 add-t8 returns-3 returns-4)
+    tie.close (tie.spec returns returns-2 opened-requires enum-told enum-known-digit mul-t7 add-t8 returns-3 returns-4)

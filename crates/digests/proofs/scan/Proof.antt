@@ -47,5 +47,4 @@ returns c = sym (at-line-end _ _ _ (c .before .before .loop-test .taken) (c .if1
 
 pub scan-spec : {M : Type 1} → statement M
 scan-spec =
-    tie.close
-    (tie.spec Inv-loop μ-loop loop-holds shared-slice-read-byte add-next returns taken-requires add-end loop-less loop-again returns-2)
+    tie.close (tie.spec Inv-loop μ-loop loop-holds shared-slice-read-byte add-next returns taken-requires add-end loop-less loop-again returns-2)

@@ -64,5 +64,4 @@ returns-6 c = search needs
 
 pub taken-spec : {M : Type 1} → statement M
 taken-spec =
-    tie.close
-    (tie.spec enum-told opened-requires first-requires enum-known-digest returns grown-requires first-requires-2 enum-known-digest-2 opened-requires-2 second-requires enum-known-digest-3 grown-requires-2 second-requires-2 enum-told-2 returns-2 returns-3 returns-4 returns-5 returns-6)
+    tie.close (tie.spec enum-told opened-requires first-requires enum-known-digest returns grown-requires first-requires-2 enum-known-digest-2 opened-requires-2 second-requires enum-known-digest-3 grown-requires-2 second-requires-2 enum-told-2 returns-2 returns-3 returns-4 returns-5 returns-6)

@@ -44,14 +44,4 @@ returns-6 c =
 
 pub solve-spec : {M : Type 1} → statement M
 solve-spec =
-    tie.close
-    (tie.spec
-    returns
-    returns-2
-    gas-crossing-requires
-    alone-requires
-    returns-3
-    dense-crossing-requires
-    returns-4
-    returns-5
-    returns-6)
+    tie.close (tie.spec returns returns-2 gas-crossing-requires alone-requires returns-3 dense-crossing-requires returns-4 returns-5 returns-6)

@@ -44,17 +44,4 @@ returns c = omega arith
 
 pub pattern-at-spec : {M : Type 1} → statement M
 pattern-at-spec =
-    tie.close
-    (tie.spec
-    Inv-loop
-    μ-loop
-    loop-holds
-    shared-slice-read-digit
-    digit-requires
-    mul-bits
-    add-bits
-    add-place
-    loop-less
-    loop-again
-    add-t12
-    returns)
+    tie.close (tie.spec Inv-loop μ-loop loop-holds shared-slice-read-digit digit-requires mul-bits add-bits add-place loop-less loop-again add-t12 returns)

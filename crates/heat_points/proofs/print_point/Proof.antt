@@ -57,21 +57,4 @@ returns c = search needs
 
 pub print-point-spec : {M : Type 1} → statement M
 print-point-spec =
-    tie.close
-    (tie.spec
-    print-hex-requires
-    double-of-requires
-    ideal-heat-capacity-requires
-    enum-known-reply
-    slice-aggregate-write-all
-    write-all-requires
-    float-to-bits-print-hex
-    print-hex-requires-2
-    enum-told
-    slice-aggregate-write-all-2
-    write-all-requires-2
-    number-requires
-    print-decimal-requires
-    slice-aggregate-write-all-3
-    write-all-requires-3
-    returns)
+    tie.close (tie.spec print-hex-requires double-of-requires ideal-heat-capacity-requires enum-known-reply slice-aggregate-write-all write-all-requires float-to-bits-print-hex print-hex-requires-2 enum-told slice-aggregate-write-all-2 write-all-requires-2 number-requires print-decimal-requires slice-aggregate-write-all-3 write-all-requires-3 returns)

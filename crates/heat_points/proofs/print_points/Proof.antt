@@ -35,14 +35,4 @@ returns c = omega arith
 
 pub print-points-spec : {M : Type 1} → statement M
 print-points-spec =
-    tie.close
-    (tie.spec
-    Inv-loop
-    μ-loop
-    loop-holds
-    pattern-at-requires
-    print-point-requires
-    add-points
-    loop-less
-    loop-again
-    returns)
+    tie.close (tie.spec Inv-loop μ-loop loop-holds pattern-at-requires print-point-requires add-points loop-less loop-again returns)

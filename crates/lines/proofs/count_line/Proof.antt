@@ -22,5 +22,4 @@ returns-4 c = simp (add-one, eq-eqb _ _ (c .before .before .if1 .left), lt-leb _
 
 pub count-line-spec : {M : Type 1} → statement M
 count-line-spec =
-    tie.close
-    (tie.spec returns returns-2 returns-3 add-t11 returns-4)
+    tie.close (tie.spec returns returns-2 returns-3 add-t11 returns-4)

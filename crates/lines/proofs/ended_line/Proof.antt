@@ -42,5 +42,4 @@ returns-5 c = rw (c .enum-told3 .given .1) refl
 
 pub ended-line-spec : {M : Type 1} → statement M
 ended-line-spec =
-    tie.close
-    (tie.spec enum-known-digest count-line-requires enum-known-digest-2 state-line-requires enum-told enum-told-2 enum-told-3 returns returns-2 returns-3 returns-4 returns-5)
+    tie.close (tie.spec enum-known-digest count-line-requires enum-known-digest-2 state-line-requires enum-told enum-told-2 enum-told-3 returns returns-2 returns-3 returns-4 returns-5)

@@ -17,5 +17,4 @@ returns-4 c = simp (le-ltb _ _ (c .before .before .if1 .left), eq-eqb _ _ (c .be
 
 pub unended-line-spec : {M : Type 1} → statement M
 unended-line-spec =
-    tie.close
-    (tie.spec returns returns-2 returns-3 returns-4)
+    tie.close (tie.spec returns returns-2 returns-3 returns-4)

@@ -98,5 +98,4 @@ returns-3 c =
 
 pub gather-spec : {M : Type 1} → statement M
 gather-spec =
-    tie.close
-    (tie.spec Inv-loop μ-loop start-requires loop-holds next-requires enum-known-state state-text-requires put-requires loop-less loop-again enum-told same-length returns enum-known-place fault-text-requires put-requires-2 same-length-2 returns-2 enum-told-2 fault-text-requires-2 put-requires-3 same-length-3 returns-3)
+    tie.close (tie.spec Inv-loop μ-loop start-requires loop-holds next-requires enum-known-state state-text-requires put-requires loop-less loop-again enum-told same-length returns enum-known-place fault-text-requires put-requires-2 same-length-2 returns-2 enum-told-2 fault-text-requires-2 put-requires-3 same-length-3 returns-3)

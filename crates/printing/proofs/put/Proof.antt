@@ -43,5 +43,4 @@ returns c =
 
 pub put-spec : {M : Type 1} → statement M
 put-spec =
-    tie.close
-    (tie.spec array-share-prefix-text slice-aggregate-copy sub-copy part-copy-start part-copy-end copy-requires add-result same-length returns)
+    tie.close (tie.spec array-share-prefix-text slice-aggregate-copy sub-copy part-copy-start part-copy-end copy-requires add-result same-length returns)

@@ -69,5 +69,4 @@ returns-3 c = (
 
 pub faulty-line-spec : {M : Type 1} → statement M
 faulty-line-spec =
-    tie.close
-    (tie.spec read-requires enum-told sub-result part-result-start part-result-end enum-told-2 sub-result-2 part-result-start-2 part-result-end-2 enum-known-place scan-requires sub-result-3 part-result-start-3 part-result-end-3 returns returns-2 returns-3)
+    tie.close (tie.spec read-requires enum-told sub-result part-result-start part-result-end enum-told-2 sub-result-2 part-result-start-2 part-result-end-2 enum-known-place scan-requires sub-result-3 part-result-start-3 part-result-end-3 returns returns-2 returns-3)

@@ -37,5 +37,4 @@ returns-4 c = long-told _ (rw (c .enum-told .given .1) at (c .before .before .be
 
 pub state-line-spec : {M : Type 1} → statement M
 state-line-spec =
-    tie.close
-    (tie.spec survey-requires enum-known-reading returns enum-known-reading-2 enum-told returns-2 returns-3 returns-4)
+    tie.close (tie.spec survey-requires enum-known-reading returns enum-known-reading-2 enum-told returns-2 returns-3 returns-4)

@@ -70,5 +70,4 @@ returns-3 c = next-came _ _ Next.TooLong (c .enum-told2 .given .1) (c .before .b
 
 pub survey-spec : {M : Type 1} → statement M
 survey-spec =
-    tie.close
-    (tie.spec Inv-loop μ-loop start-requires loop-holds next-requires enum-known-state add-state-lines loop-less loop-again enum-told returns enum-known-place returns-2 enum-told-2 returns-3)
+    tie.close (tie.spec Inv-loop μ-loop start-requires loop-holds next-requires enum-known-state add-state-lines loop-less loop-again enum-told returns enum-known-place returns-2 enum-told-2 returns-3)

@@ -39,11 +39,4 @@ returns-2 c =
 
 pub find-spec : {M : Type 1} → statement M
 find-spec =
-    tie.close
-    (tie.spec
-    reduce-requires
-    enum-known-refusal
-    enum-known-fluid
-    both-roots-requires
-    returns
-    returns-2)
+    tie.close (tie.spec reduce-requires enum-known-refusal enum-known-fluid both-roots-requires returns returns-2)

@@ -29,5 +29,4 @@ returns-4 c = answers (omega arith) (c .fall .ensures)
 
 pub gas-crossing-spec : {M : Type 1} → statement M
 gas-crossing-spec =
-    tie.close
-    (tie.spec returns returns-2 gas-side-requires crosses-requires returns-3 fall-requires returns-4)
+    tie.close (tie.spec returns returns-2 gas-side-requires crosses-requires returns-3 fall-requires returns-4)

@@ -76,28 +76,4 @@ returns c = omega arith
 
 pub print-sheet-spec : {M : Type 1} → statement M
 print-sheet-spec =
-    tie.close
-    (tie.spec
-    Inv-loop
-    μ-loop
-    read-requires
-    figures-requires
-    print-decimal-requires
-    print-after-space-requires
-    print-after-space-requires-2
-    slice-aggregate-write-all
-    write-all-requires
-    faulty-line-requires
-    write-all-requires-2
-    slice-aggregate-write-all-2
-    write-all-requires-3
-    loop-holds
-    print-state-line-requires
-    add-k
-    loop-less
-    loop-again
-    print-state-line-requires-2
-    print-state-line-requires-3
-    slice-aggregate-write-all-3
-    write-all-requires-4
-    returns)
+    tie.close (tie.spec Inv-loop μ-loop read-requires figures-requires print-decimal-requires print-after-space-requires print-after-space-requires-2 slice-aggregate-write-all write-all-requires faulty-line-requires write-all-requires-2 slice-aggregate-write-all-2 write-all-requires-3 loop-holds print-state-line-requires add-k loop-less loop-again print-state-line-requires-2 print-state-line-requires-3 slice-aggregate-write-all-3 write-all-requires-4 returns)

@@ -47,18 +47,4 @@ returns c = omega arith
 
 pub print-sheets-spec : {M : Type 1} → statement M
 print-sheets-spec =
-    tie.close
-    (tie.spec
-    Inv-loop
-    μ-loop
-    loop-holds
-    end-of-requires
-    sub-print-sheet
-    part-print-sheet-start
-    part-print-sheet-end
-    print-sheet-requires
-    add-at
-    add-sheets
-    loop-less
-    loop-again
-    returns)
+    tie.close (tie.spec Inv-loop μ-loop loop-holds end-of-requires sub-print-sheet part-print-sheet-start part-print-sheet-end print-sheet-requires add-at add-sheets loop-less loop-again returns)

@@ -65,16 +65,4 @@ returns c = square-root (omega arith) (omega arith)
 
 pub square-root-spec : {M : Type 1} → statement M
 square-root-spec =
-    tie.close
-    (tie.spec
-    Inv-loop
-    μ-loop
-    first-guess-requires
-    step-requires
-    step-requires-2
-    loop-holds
-    mul-loop
-    step-requires-3
-    loop-less
-    loop-again
-    returns)
+    tie.close (tie.spec Inv-loop μ-loop first-guess-requires step-requires step-requires-2 loop-holds mul-loop step-requires-3 loop-less loop-again returns)

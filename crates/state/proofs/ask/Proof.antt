@@ -34,11 +34,4 @@ returns-2 c =
 
 pub ask-spec : {M : Type 1} → statement M
 ask-spec =
-    tie.close
-    (tie.spec
-    find-requires
-    enum-known-refusal
-    enum-known-fluid
-    answer-requires
-    returns
-    returns-2)
+    tie.close (tie.spec find-requires enum-known-refusal enum-known-fluid answer-requires returns returns-2)

@@ -61,17 +61,4 @@ returns-3 c =
 
 pub ask-with-book-spec : {M : Type 1} → statement M
 ask-with-book-spec =
-    tie.close
-    (tie.spec
-    start-in-requires
-    find-requires
-    enum-known-earlier
-    enum-known-fluid
-    leave-requires
-    answer-requires
-    same-length
-    returns
-    same-length-2
-    returns-2
-    same-length-3
-    returns-3)
+    tie.close (tie.spec start-in-requires find-requires enum-known-earlier enum-known-fluid leave-requires answer-requires same-length returns same-length-2 returns-2 same-length-3 returns-3)

@@ -52,20 +52,4 @@ returns c = omega arith
 
 pub print-book-spec : {M : Type 1} → statement M
 print-book-spec =
-    tie.close
-    (tie.spec
-    Inv-loop
-    μ-loop
-    slice-aggregate-write-all
-    write-all-requires
-    loop-holds
-    mul-wide
-    shared-slice-read-wide
-    wide-requires
-    print-after-space-requires
-    add-slot
-    loop-less
-    loop-again
-    slice-aggregate-write-all-2
-    write-all-requires-2
-    returns)
+    tie.close (tie.spec Inv-loop μ-loop slice-aggregate-write-all write-all-requires loop-holds mul-wide shared-slice-read-wide wide-requires print-after-space-requires add-slot loop-less loop-again slice-aggregate-write-all-2 write-all-requires-2 returns)

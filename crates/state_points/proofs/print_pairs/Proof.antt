@@ -57,21 +57,4 @@ returns c = omega arith
 
 pub print-pairs-spec : {M : Type 1} → statement M
 print-pairs-spec =
-    tie.close
-    (tie.spec
-    Inv-loop
-    μ-loop
-    mul-pair-end
-    loop-holds
-    mul-millikelvin
-    array-read-millikelvin
-    mul-pascals
-    array-read-pascals
-    print-state-requires
-    print-state-requires-2
-    add-asked
-    add-pair
-    loop-less
-    loop-again
-    same-length
-    returns)
+    tie.close (tie.spec Inv-loop μ-loop mul-pair-end loop-holds mul-millikelvin array-read-millikelvin mul-pascals array-read-pascals print-state-requires print-state-requires-2 add-asked add-pair loop-less loop-again same-length returns)

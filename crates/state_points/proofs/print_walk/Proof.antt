@@ -36,14 +36,4 @@ returns c = omega arith
 
 pub print-walk-spec : {M : Type 1} → statement M
 print-walk-spec =
-    tie.close
-    (tie.spec
-    Inv-loop
-    μ-loop
-    loop-holds
-    print-random-state-requires
-    add-asked
-    loop-less
-    loop-again
-    same-length
-    returns)
+    tie.close (tie.spec Inv-loop μ-loop loop-holds print-random-state-requires add-asked loop-less loop-again same-length returns)

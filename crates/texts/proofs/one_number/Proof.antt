@@ -31,5 +31,4 @@ returns-2 c =
 
 pub one-number-spec : {M : Type 1} → statement M
 one-number-spec =
-    tie.close
-    (tie.spec returns slice-aggregate-put put-requires slice-aggregate-put-last-number put-last-number-requires returns-2)
+    tie.close (tie.spec returns slice-aggregate-put put-requires slice-aggregate-put-last-number put-last-number-requires returns-2)

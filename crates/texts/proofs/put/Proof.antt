@@ -29,5 +29,4 @@ returns c =
 
 pub put-spec : {M : Type 1} → statement M
 put-spec =
-    tie.close
-    (tie.spec sub-copy part-copy-start part-copy-end copy-requires add-result same-length returns)
+    tie.close (tie.spec sub-copy part-copy-start part-copy-end copy-requires add-result same-length returns)

@@ -38,5 +38,4 @@ returns-2 c =
 
 pub two-numbers-spec : {M : Type 1} → statement M
 two-numbers-spec =
-    tie.close
-    (tie.spec returns slice-aggregate-put put-requires slice-aggregate-put-spaced put-spaced-requires slice-aggregate-put-last-number put-last-number-requires returns-2)
+    tie.close (tie.spec returns slice-aggregate-put put-requires slice-aggregate-put-spaced put-spaced-requires slice-aggregate-put-last-number put-last-number-requires returns-2)

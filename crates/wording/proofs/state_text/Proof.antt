@@ -49,5 +49,4 @@ returns-3 c =
 
 pub state-text-spec : {M : Type 1} → statement M
 state-text-spec =
-    tie.close
-    (tie.spec ask-requires figures-requires slice-aggregate-one-number one-number-requires returns slice-aggregate-two-numbers two-numbers-requires returns-2 slice-aggregate-two-numbers-2 two-numbers-requires-2 returns-3)
+    tie.close (tie.spec ask-requires figures-requires slice-aggregate-one-number one-number-requires returns slice-aggregate-two-numbers two-numbers-requires returns-2 slice-aggregate-two-numbers-2 two-numbers-requires-2 returns-3)

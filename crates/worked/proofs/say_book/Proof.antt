@@ -38,15 +38,4 @@ returns c = tt
 
 pub say-book-spec : {M : Type 1} → statement M
 say-book-spec =
-    tie.close
-    (tie.spec
-    Inv-loop
-    μ-loop
-    loop-holds
-    mul-say-held
-    shared-slice-read-say-held
-    say-held-requires
-    add-place
-    loop-less
-    loop-again
-    returns)
+    tie.close (tie.spec Inv-loop μ-loop loop-holds mul-say-held shared-slice-read-say-held say-held-requires add-place loop-less loop-again returns)

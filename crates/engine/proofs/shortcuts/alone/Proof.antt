@@ -55,13 +55,4 @@ returns-2 c said =
 
 pub alone-spec : {M : Type 1} → statement M
 alone-spec =
-    tie.close
-    (tie.spec
-    returns
-    left-to-grid-requires
-    mul-result
-    mul-result-2
-    mul-result-3
-    mul-result-4
-    mul-result-5
-    returns-2)
+    tie.close (tie.spec returns left-to-grid-requires mul-result mul-result-2 mul-result-3 mul-result-4 mul-result-5 returns-2)

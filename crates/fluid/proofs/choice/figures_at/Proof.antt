@@ -24,5 +24,4 @@ returns-2 c = rw (c .before .enum-told2 .given .1) (c .figures .ensures (c .befo
 
 pub figures-at-spec : {M : Type 1} → statement M
 figures-at-spec =
-    tie.close
-    (tie.spec enum-told figures-at-requires enum-told-2 figures-requires returns returns-2)
+    tie.close (tie.spec enum-told figures-at-requires enum-told-2 figures-requires returns returns-2)

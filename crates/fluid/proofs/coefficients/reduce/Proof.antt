@@ -35,11 +35,4 @@ returns-2 c =
 
 pub reduce-spec : {M : Type 1} → statement M
 reduce-spec =
-    tie.close
-    (tie.spec
-    of-number-requires
-    enum-known-refusal
-    enum-known-fluid
-    reduce-fluid-requires
-    returns
-    returns-2)
+    tie.close (tie.spec of-number-requires enum-known-refusal enum-known-fluid reduce-fluid-requires returns returns-2)

@@ -106,25 +106,4 @@ returns-5 c =
 
 pub reduce-fluid-spec : {M : Type 1} → statement M
 reduce-fluid-spec =
-    tie.close
-    (tie.spec
-    returns
-    figures-at-requires
-    returns-2
-    returns-3
-    returns-4
-    mul-t
-    div-t
-    mul-p
-    div-p
-    mul-square-root
-    cast-square-root
-    square-root-requires
-    mul-a
-    mul-a-2
-    mul-a-3
-    div-a
-    mul-b
-    mul-b-2
-    div-b
-    returns-5)
+    tie.close (tie.spec returns figures-at-requires returns-2 returns-3 returns-4 mul-t div-t mul-p div-p mul-square-root cast-square-root square-root-requires mul-a mul-a-2 mul-a-3 div-a mul-b mul-b-2 div-b returns-5)

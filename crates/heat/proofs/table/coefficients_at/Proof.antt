@@ -63,14 +63,4 @@ returns-4 c =
 
 pub coefficients-at-spec : {M : Type 1} → statement M
 coefficients-at-spec =
-    tie.close
-    (tie.spec
-    table-4-requires
-    array-copy-out-result
-    returns
-    array-copy-out-result-2
-    returns-2
-    array-copy-out-result-3
-    returns-3
-    array-copy-out-result-4
-    returns-4)
+    tie.close (tie.spec table-4-requires array-copy-out-result returns array-copy-out-result-2 returns-2 array-copy-out-result-3 returns-3 array-copy-out-result-4 returns-4)

@@ -54,5 +54,4 @@ returns-2 c =
 
 pub next-spec : {M : Type 1} → statement M
 next-spec =
-    tie.close
-    (tie.spec Inv-loop μ-loop returns loop-holds line-at-requires enum-known-after loop-less loop-again enum-known-next returns-2)
+    tie.close (tie.spec Inv-loop μ-loop returns loop-holds line-at-requires enum-known-after loop-less loop-again enum-known-next returns-2)

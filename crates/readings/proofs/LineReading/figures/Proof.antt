@@ -39,5 +39,4 @@ returns-4 c = rw (c .before .enum-told2 .given .1) (c .refused3 .ensures)
 
 pub figures-spec : {M : Type 1} → statement M
 figures-spec =
-    tie.close
-    (tie.spec enum-known-self enum-told refused-requires enum-known-self-2 refused-requires-2 enum-told-2 refused-requires-3 returns returns-2 returns-3 returns-4)
+    tie.close (tie.spec enum-known-self enum-told refused-requires enum-known-self-2 refused-requires-2 enum-told-2 refused-requires-3 returns returns-2 returns-3 returns-4)

@@ -31,13 +31,4 @@ returns-3 c = rw (c .before .before .before .self3 .given .1) (c .refused .ensur
 
 pub figures-spec : {M : Type 1} → statement M
 figures-spec =
-    tie.close
-    (tie.spec
-    enum-known-self
-    enum-known-self-2
-    enum-known-self-3
-    number-requires
-    refused-requires
-    returns
-    returns-2
-    returns-3)
+    tie.close (tie.spec enum-known-self enum-known-self-2 enum-known-self-3 number-requires refused-requires returns returns-2 returns-3)

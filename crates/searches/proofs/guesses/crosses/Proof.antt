@@ -29,12 +29,4 @@ returns-2 c said = crossing (omega arith) (omega (arith, ltb-true))
 
 pub crosses-spec : {M : Type 1} → statement M
 crosses-spec =
-    tie.close
-    (tie.spec
-    minus-requires
-    plus-requires
-    add-next
-    minus-requires-2
-    plus-requires-2
-    returns
-    returns-2)
+    tie.close (tie.spec minus-requires plus-requires add-next minus-requires-2 plus-requires-2 returns returns-2)

@@ -63,23 +63,4 @@ returns-4 c = omega arith
 
 pub nearer-spec : {M : Type 1} → statement M
 nearer-spec =
-    tie.close
-    (tie.spec
-    add-last
-    returns
-    add-first-order
-    mul-first-order
-    mul-less
-    sub-less
-    mul-less-2
-    returns-2
-    sub-second-order
-    mul-fallen
-    mul-fallen-2
-    add-fallen
-    sub-fallen
-    div-fallen
-    sub-if3
-    sub-result
-    returns-3
-    returns-4)
+    tie.close (tie.spec add-last returns add-first-order mul-first-order mul-less sub-less mul-less-2 returns-2 sub-second-order mul-fallen mul-fallen-2 add-fallen sub-fallen div-fallen sub-if3 sub-result returns-3 returns-4)

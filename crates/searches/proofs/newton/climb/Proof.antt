@@ -75,21 +75,4 @@ loop-again c = climb-goes-on (c .if4 .left) (turn (c .before .before) (omega (ar
 
 pub climb-spec : {M : Type 1} → statement M
 climb-spec =
-    tie.close
-    (tie.spec
-    Inv-loop
-    μ-loop
-    returns
-    loop-holds
-    rise-requires
-    returns-2
-    minus-requires
-    plus-requires
-    sub-room
-    returns-3
-    div-jump
-    sub-if4
-    returns-4
-    add-low
-    loop-less
-    loop-again)
+    tie.close (tie.spec Inv-loop μ-loop returns loop-holds rise-requires returns-2 minus-requires plus-requires sub-room returns-3 div-jump sub-if4 returns-4 add-low loop-less loop-again)

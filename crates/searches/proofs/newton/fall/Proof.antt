@@ -56,19 +56,4 @@ loop-again c = c .place-at .ensures .1
 
 pub fall-spec : {M : Type 1} → statement M
 fall-spec =
-    tie.close
-    (tie.spec
-    Inv-loop
-    μ-loop
-    first-place-requires
-    loop-holds
-    returns
-    sub-result
-    returns-2
-    div-jump
-    sub-if3
-    returns-3
-    sub-place-at
-    place-at-requires
-    loop-less
-    loop-again)
+    tie.close (tie.spec Inv-loop μ-loop first-place-requires loop-holds returns sub-result returns-2 div-jump sub-if3 returns-3 sub-place-at place-at-requires loop-less loop-again)

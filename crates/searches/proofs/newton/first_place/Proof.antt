@@ -57,19 +57,4 @@ returns-3 c =
 
 pub first-place-spec : {M : Type 1} → statement M
 first-place-spec =
-    tie.close
-    (tie.spec
-    add-top
-    add-top-2
-    nearer-requires
-    add-high
-    rise-requires
-    plus-requires
-    minus-requires
-    place-at-requires
-    place-at-requires-2
-    sub-room
-    sub-room-2
-    returns
-    returns-2
-    returns-3)
+    tie.close (tie.spec add-top add-top-2 nearer-requires add-high rise-requires plus-requires minus-requires place-at-requires place-at-requires-2 sub-room sub-room-2 returns returns-2 returns-3)

@@ -39,14 +39,4 @@ returns c = refl
 
 pub minus-spec : {M : Type 1} → statement M
 minus-spec =
-    tie.close
-    (tie.spec
-    mul-result
-    add-result
-    mul-result-2
-    add-result-2
-    mul-result-3
-    mul-result-4
-    mul-result-5
-    add-result-3
-    returns)
+    tie.close (tie.spec mul-result add-result mul-result-2 add-result-2 mul-result-3 mul-result-4 mul-result-5 add-result-3 returns)

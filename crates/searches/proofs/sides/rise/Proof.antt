@@ -58,20 +58,4 @@ returns-2 c = refl
 
 pub rise-spec : {M : Type 1} → statement M
 rise-spec =
-    tie.close
-    (tie.spec
-    add-up
-    mul-up
-    mul-up-2
-    add-up-2
-    mul-up-3
-    add-up-3
-    mul-down
-    add-down
-    mul-down-2
-    add-down-2
-    mul-down-3
-    add-down-3
-    sub-result
-    returns
-    returns-2)
+    tie.close (tie.spec add-up mul-up mul-up-2 add-up-2 mul-up-3 add-up-3 mul-down add-down mul-down-2 add-down-2 mul-down-3 add-down-3 sub-result returns returns-2)

@@ -28,5 +28,4 @@ returns-3 c = rw (c .enum-told3 .given .1) refl
 
 pub faulty-line-length-spec : {M : Type 1} → statement M
 faulty-line-length-spec =
-    tie.close
-    (tie.spec enum-told enum-told-2 faulty-line-requires enum-told-3 returns returns-2 returns-3)
+    tie.close (tie.spec enum-told enum-told-2 faulty-line-requires enum-told-3 returns returns-2 returns-3)
