@@ -1,23 +1,19 @@
 // The crossings of the cubic on either side of the bend: at most one from the bend on, which a search from
 // above finds, and at most one below it, which a search from below finds.
-mod guesses;
 mod newton;
 mod sides;
+mod starts;
 
 ghost use Rattle.cubic.specs.Sides.{FallsTo, ClimbsTo};
 ghost use Rattle.searches.specs.Promise.{Ends};
-use crate::guesses::crosses;
-use crate::guesses::gas_side;
 use crate::newton::climb;
 use crate::newton::fall;
-pub use sides::BEND;
-pub use sides::GRID;
-
-// Bounds within which every value worked out stays below 2^64 (specs/Promise.antt of `cubic` says what they
-// hold).
-pub const LARGEST_A: u64 = 20_000_000;
-
-pub const LARGEST_B: u64 = 1_000_000;
+use crate::starts::crosses;
+use crate::starts::gas_side;
+pub use guesses::BEND;
+pub use guesses::GRID;
+pub use guesses::LARGEST_A;
+pub use guesses::LARGEST_B;
 
 // The crossing at the bend or above, the place below the bend if there is none, and 0 where a or b is out of
 // bounds. A start that is that crossing spares the search, and any other is forgotten.

@@ -4,13 +4,13 @@
 ghost use mathlib.Core.Path.{_≡_};
 ghost use Rattle.cubic.specs.Promise.{Within};
 ghost use Rattle.cubic.specs.Sides.{FallsFrom, Falling, FallsTo, ClimbsTo};
-use crate::guesses::nearer;
 use crate::sides::BELOW_BEND;
-use crate::sides::BEND;
-use crate::sides::GRID;
 use crate::sides::minus;
 use crate::sides::plus;
 use crate::sides::rise;
+use guesses::BEND;
+use guesses::GRID;
+use guesses::nearer;
 
 // A place from which g is positive for good, with what a step down from it asks: by how much g rises to
 // it, and what g has above 1 there.

@@ -5,11 +5,8 @@ ghost use Prim.Native.Nat.{_≤_};
 ghost use Rattle.cubic.specs.Promise.{largestA, Within};
 ghost use Rattle.cubic.specs.Sides.{farthest};
 ghost use Rattle.cubic.specs.Sides.{plus as Sides·plus, minus as Sides·minus, rise as Sides·rise};
-
-// The grid N of document 01, and the place a third up at which g bends.
-pub const GRID: u64 = 100_000;
-
-pub const BEND: u64 = 33_333;
+use guesses::BEND;
+use guesses::GRID;
 
 pub(crate) const BELOW_BEND: u64 = BEND - 1;
 

@@ -1,6 +1,7 @@
 -- `searches::newton::first_place` meets its contract: whatever the guess is, g is positive for good from the place that is answered. Assumes nothing.
 use native.Mathlib.Nat.{pos-of-ne-zero}
 use native.Mathlib.Omega.{arith}
+use Rattle.cubic.specs.Sides.{GasSide}
 use Rattle.cubic.proofs.Falls.{from-top, from-start, slope-below}
 use Rattle.searches.proofs.newton.first_place.Statement.{statement}
 use Rattle.searches.proofs.newton.first_place.Tie as tie
@@ -12,19 +13,23 @@ add-top-2 : tie.Need-add-top-2
 add-top-2 c = omega arith
 
 nearer-requires : tie.Need-nearer-requires
-nearer-requires c κs = omega arith
+nearer-requires c κs = tt
+
+-- the guess lies on the gas side
+guessed : (c : tie.After-nearer) → GasSide (c .before .args .b) (c .nearer .result)
+guessed c = c .nearer .ensures (c .before .pre)
 
 add-high : tie.Need-add-high
-add-high c = omega arith
+add-high c = omega (arith, guessed c)
 
 rise-requires : tie.Need-rise-requires
-rise-requires c κs = omega arith
+rise-requires c κs = (c .before .pre, omega (arith, guessed c))
 
 plus-requires : tie.Need-plus-requires
-plus-requires c κs = omega arith
+plus-requires c κs = omega (arith, guessed (c .before))
 
 minus-requires : tie.Need-minus-requires
-minus-requires c κs = omega arith
+minus-requires c κs = omega (arith, guessed (c .before .before))
 
 place-at-requires : tie.Need-place-at-requires
 place-at-requires c κs = (c .before .before .before .before .before .pre, from-top _ _ (omega arith) (omega arith))
@@ -49,10 +54,11 @@ returns-3 c =
     let worked = c .before .before in
     let rising = worked .before .before in
     let guess = rising .before .nearer in
+    let known = guessed (rising .before) in
     record {
       is-room = omega arith;
       is-slope = slope-below _ _ (guess .result) (rising .rise .ensures);
-      begins = from-start _ _ _ (guess .ensures .from-bend) (omega (arith, guess .ensures)) (rising .rise .ensures) (pos-of-ne-zero (c .before .if1 .left)) (omega arith);
+      begins = from-start _ _ _ (known .from-bend) (omega (arith, known)) (rising .rise .ensures) (pos-of-ne-zero (c .before .if1 .left)) (omega arith);
     }
 
 pub first-place-spec : {M : Type 1} → statement M

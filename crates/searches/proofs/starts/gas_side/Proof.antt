@@ -1,7 +1,7 @@
--- `searches::guesses::gas_side` meets its contract: a start that is passed on lies where it was tested to lie. Assumes nothing.
+-- `searches::starts::gas_side` meets its contract: a start that is passed on lies where it was tested to lie. Assumes nothing.
 use native.Mathlib.Omega.{arith}
-use Rattle.searches.proofs.guesses.gas_side.Statement.{statement}
-use Rattle.searches.proofs.guesses.gas_side.Tie as tie
+use Rattle.searches.proofs.starts.gas_side.Statement.{statement}
+use Rattle.searches.proofs.starts.gas_side.Tie as tie
 
 add-if2 : tie.Need-add-if2
 add-if2 c = omega arith

@@ -1,10 +1,10 @@
--- `searches::guesses::crosses` meets its contract: its two tests are what a crossing is. Assumes nothing.
+-- `searches::starts::crosses` meets its contract: its two tests are what a crossing is. Assumes nothing.
 use mathlib.Core.Bool.{false≢true}
 use native.Mathlib.Omega.{arith}
 use borrow.Author.Tests.{ltb-true}
 use Rattle.cubic.proofs.Spared.{crossing}
-use Rattle.searches.proofs.guesses.crosses.Statement.{statement}
-use Rattle.searches.proofs.guesses.crosses.Tie as tie
+use Rattle.searches.proofs.starts.crosses.Statement.{statement}
+use Rattle.searches.proofs.starts.crosses.Tie as tie
 
 minus-requires : tie.Need-minus-requires
 minus-requires c κs = omega arith
