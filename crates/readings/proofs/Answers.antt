@@ -1,14 +1,14 @@
 -- What is so of a sheet is told as the contracts say, and what is told is one. Assumes nothing.
 use mathlib.Core.Path.{_≡_, refl, sym, ap, _∙_}
-use mathlib.Core.Logic.{_⊎_, inl, inr}
+use mathlib.Core.Logic.{inl, inr}
 use mathlib.Core.Bool.{Bool, true, false, cond}
-use mathlib.Core.List.{List, [], _∷_, _++_}
-use mathlib.Core.Option.{Option, some, Option·some-injective}
+use mathlib.Core.List.{List, _++_}
+use mathlib.Core.Option.{Option, Option·some-injective}
 use Prim.Native.Nat.{ℕ, _≤_}
 use native.Mathlib.Omega.{arith}
 use lib.Dec.{eqb}
 use lib.ListN.{length}
-use Rattle.refusals.specs.Checks.{Check, NoneOf, Tells, refuses, answers}
+use Rattle.refusals.specs.Checks.{Check, NoneOf, Tells, refuses}
 use Rattle.refusals.proofs.Theorems.{tells-once}
 use Rattle.sheets.specs.Grammar.{Pair, Good}
 use Rattle.sheets.specs.Reading.{FaultAt}

@@ -1,11 +1,11 @@
 -- What comes next from a cursor, and what is told of it. Assumes nothing.
 use mathlib.Core.Path.{_≡_, refl, sym, ap, subst, _∙_}
-use mathlib.Core.Logic.{_⊎_, inl, inr}
+use mathlib.Core.Logic.{inl, inr}
 use mathlib.Core.List.{List, [], _∷_}
 use Prim.Native.Nat.{ℕ, _≤_}
 use native.Mathlib.Omega.{arith}
 use lib.ListN.{length}
-use Rattle.refusals.specs.Checks.{_if_, Tells, refuses, answers}
+use Rattle.refusals.specs.Checks.{_if_, refuses, answers}
 use Rattle.refusals.proofs.Theorems.{tells-once}
 use Rattle.sheets.specs.declared.Cursor.{Cursor}
 use Rattle.sheets.specs.declared.Next.{Next}

@@ -1,5 +1,5 @@
 -- A list of checks behind another, as a call with a book has behind that of a call without. Assumes nothing.
-use mathlib.Core.Logic.{_⊎_, inl, inr}
+use mathlib.Core.Logic.{inl, inr}
 use mathlib.Core.List.{List, [], _∷_, _++_}
 use Prim.Native.Nat.{ℕ}
 use Rattle.refusals.specs.Checks.{Check, NoneOf, FirstOf, Tells, refuses, answers}

@@ -1,6 +1,6 @@
 -- What comes next from a cursor, and how a reading goes on from there: it is determined, it always is, and each state line lies farther on in
 -- the sheet. Assumes nothing.
-use mathlib.Core.Path.{_≡_, refl, sym, ap, subst, _∙_}
+use mathlib.Core.Path.{_≡_, refl, ap, subst}
 use mathlib.Core.List.{List, [], _∷_}
 use Prim.Native.Nat.{ℕ, suc, _+_, _≤_, _<_}
 use native.Mathlib.Omega.{arith}

@@ -11,7 +11,7 @@ use Rattle.fluid.specs.Checks.{stateChecks}
 use Rattle.fluid.proofs.Accepting.{no-fluid, unknown-fluid, wrong-temperature, wrong-pressure, passes}
 use Rattle.replies.specs.Figures.{refusedWith}
 use Rattle.state.specs.Book.{slotChecks}
-use Rattle.worked.specs.Rows.{Span, ForEach, Replied, RightRefusal}
+use Rattle.worked.specs.Rows.{Span, Replied, RightRefusal}
 use Rattle.worked.proofs.Tests.{Tested, by, _with_, _or_, equal, differ, at-most, below}
 use Rattle.worked.proofs.Spans.{for-each, at-each}
 use Rattle.worked.proofs.Answers.{accepted}
