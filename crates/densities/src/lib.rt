@@ -4,14 +4,11 @@ ghost use Prim.Native.Nat.{_*_, _/_};
 ghost use Rattle.densities.specs.Promise.{Weighs};
 ghost use Rattle.densities.specs.Inside.{PartsFit};
 use fluid::Fluid;
+use fluid::HIGHEST_PASCALS;
+use fluid::HOTTEST_MILLIKELVIN;
 use fluid::density_factor;
 
-// The ends within which 64 bits suffice: those that every state's range has, and N + b for the largest b
-// that the cubic takes.
-const HOTTEST_MILLIKELVIN: u64 = 1_000_000;
-
-const HIGHEST_PASCALS: u64 = 50_000_000;
-
+// N + b for the largest b that the cubic takes.
 const LARGEST_ROOT: u64 = 1_100_000;
 
 // Half of the gas constant 8314.

@@ -9,11 +9,11 @@ use refusals::Refusal;
 use squares::square_root;
 
 // The ends that all fluids share.
-const HOTTEST_MILLIKELVIN: u64 = 1_000_000;
+pub const HOTTEST_MILLIKELVIN: u64 = 1_000_000;
 
 const LOWEST_PASCALS: u64 = 10_000;
 
-const HIGHEST_PASCALS: u64 = 50_000_000;
+pub const HIGHEST_PASCALS: u64 = 50_000_000;
 
 // 0.42748 and 0.08664, times the units of t, p, s and of the hundred-thousandths of a and b.
 const FACTOR_OF_A: u64 = 42_748_000_000;

@@ -9,6 +9,8 @@ pub use choice::Fluid;
 pub use choice::Numbered;
 pub use choice::density_factor;
 pub use choice::of_number;
+pub use coefficients::HIGHEST_PASCALS;
+pub use coefficients::HOTTEST_MILLIKELVIN;
 pub use coefficients::Reduced;
 pub use coefficients::Reduction;
 pub use coefficients::reduce;

@@ -9,12 +9,8 @@ use lib.Dec.{eqb}
 use Rattle.refusals.specs.declared.Refusal.{Refusal}
 use Rattle.refusals.specs.declared.Refusal.the-variants.{NoSuchFluid, TemperatureOutOfRange, PressureOutOfRange, NoSuchSlot}
 use Rattle.refusals.specs.Numbers.{numberOfRefusal}
+use Rattle.refusals.proofs.Lists.{none-or-first}
 use Rattle.refusals.specs.Checks.{Check, NoneOf, FirstOf, Tells, refuses, answers, Outcome, with-value, with-number, Gives}
-
-pub none-or-first : (checks : List Check) (refusal : ℕ) → NoneOf checks → FirstOf checks refusal → ⊥
-none-or-first [] refusal none first = first
-none-or-first (check ∷ checks) refusal none (inl here) = none .0 (here .0)
-none-or-first (check ∷ checks) refusal none (inr later) = none-or-first checks refusal (none .1) (later .1)
 
 pub first-once : (checks : List Check) (refusal other : ℕ) → FirstOf checks refusal → FirstOf checks other → refusal ≡ other
 first-once [] refusal other first first′ = absurd first

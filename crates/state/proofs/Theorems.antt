@@ -6,8 +6,7 @@ use mathlib.Core.List.{List, [], _∷_, _++_}
 use Prim.Native.Nat.{ℕ, zero, suc, _≤_}
 use lib.ListN.{length, set, replicate, length-set, length-replicate}
 use Rattle.refusals.specs.Checks.{refuses, answers}
-use Rattle.refusals.proofs.Lists.{tells-without}
-use Rattle.refusals.proofs.Theorems.{none-or-first}
+use Rattle.refusals.proofs.Lists.{none-or-first, tells-without}
 use Rattle.cubic.specs.Cubic.{Crossing, GasRoot, DenseRoot}
 use Rattle.cubic.proofs.Theorems as cubic
 use Rattle.fluid.specs.declared.choice.Fluid.{Fluid}
