@@ -1,7 +1,8 @@
 /* Woolyard: compressibility roots and densities of parahydrogen and oxygen, hydrogen's ideal heat capacity, and state sheets.
  *
  * Every function answers every input with a number: 0 for an answer, another for a refusal, named below. The caller checks nothing first.
- * Each is proved to answer what document 01 (rules and scope of the build) defines, and to write nothing but what is said here.
+ * Each is proved to answer what document 01 (rules and scope of the build) defines, as later requests amend it, and to write nothing but what is
+ * said here.
  *
  * What a pointer must be, and nothing else is asked: it points to as many elements as its array or its length says, and what is written
  * through one pointer lies apart from what the others point to. With length 0 it may be any pointer but a null one.
@@ -20,14 +21,16 @@ extern "C" {
 
 /* The numbers of the replies. */
 #define WOOLYARD_ANSWERED 0
-#define WOOLYARD_NO_SUCH_FLUID 1             /* fluid is neither 0 nor 1 */
-#define WOOLYARD_TEMPERATURE_OUT_OF_RANGE 2  /* hydrogen: 14,000 to 1,000,000 mK; oxygen: 56,000 to 1,000,000 mK; ends included */
-#define WOOLYARD_PRESSURE_OUT_OF_RANGE 3     /* 10,000 to 50,000,000 Pa, ends included */
-#define WOOLYARD_NO_SUCH_SLOT 4              /* book not of 64 numbers, or slot above 63 */
-#define WOOLYARD_HEAT_OUT_OF_RANGE 5         /* heat-capacity temperature not a number in 14 to 1000 K */
-#define WOOLYARD_SHEET_MALFORMED 6           /* sheet badly formed */
-#define WOOLYARD_SHEET_TOO_LONG 7            /* sheet longer than 65,536 bytes */
-#define WOOLYARD_NO_SUCH_LINE 16             /* no state line of the number asked for */
+#define WOOLYARD_NO_SUCH_FLUID 1          /* fluid is neither 0 nor 1 */
+#define WOOLYARD_NO_SUCH_SLOT 4           /* book not of 64 numbers, or slot above 63 */
+#define WOOLYARD_HEAT_OUT_OF_RANGE 5      /* heat-capacity temperature not a number in 14 to 1000 K */
+#define WOOLYARD_SHEET_MALFORMED 6        /* sheet badly formed */
+#define WOOLYARD_SHEET_TOO_LONG 7         /* sheet longer than 65,536 bytes */
+#define WOOLYARD_NO_SUCH_LINE 16          /* no state line of the number asked for */
+#define WOOLYARD_TEMPERATURE_TOO_LOW 21   /* below 14,000 mK for parahydrogen, below 56,000 mK for oxygen */
+#define WOOLYARD_TEMPERATURE_TOO_HIGH 22  /* above 1,000,000 mK for either */
+#define WOOLYARD_PRESSURE_TOO_LOW 31      /* below 10,000 Pa for either */
+#define WOOLYARD_PRESSURE_TOO_HIGH 32     /* above 50,000,000 Pa for either */
 
 /* The fluids. */
 #define WOOLYARD_PARAHYDROGEN 0
@@ -50,12 +53,12 @@ extern "C" {
 #define WOOLYARD_SHEET_MOST_BYTES 65536
 
 /* The reply to a state: its five figures, which are zeros where it is refused.
- * Answers 0, 1, 2 or 3; the first of 1, 2, 3 that applies is given. */
+ * Answers 0, 1, 21, 22, 31 or 32; the first of these that applies is given, and 0 where none does. */
 uint64_t woolyard_state(uint64_t fluid, uint64_t millikelvin, uint64_t pascals, uint64_t figures[5]);
 
 /* The same with a book of starting points, 64 numbers of 32 bits, holding anything at all. An answered call writes the gas root into its
  * slot and touches no other place; a refused call writes nothing to the book. What the book holds changes how long an answer takes, never
- * what it is. Answers 0, 1, 2, 3 or 4; the first of 1, 2, 3, 4 that applies is given. */
+ * what it is. Answers 0, 1, 21, 22, 31, 32 or 4; the first refusal in this order that applies is given. */
 uint64_t woolyard_state_with_book(uint64_t fluid, uint64_t millikelvin, uint64_t pascals, uint64_t slot, uint32_t *book, size_t book_length,
                                   uint64_t figures[5]);
 

@@ -42,10 +42,14 @@ uint64_t peer_state(uint64_t fluid, uint64_t millikelvin, uint64_t pascals, doub
     if (fluid > WOOLYARD_OXYGEN)
         return refused(WOOLYARD_NO_SUCH_FLUID, figures);
     uint64_t coldest = fluid == WOOLYARD_OXYGEN ? COLDEST_OXYGEN : COLDEST_HYDROGEN;
-    if (millikelvin < coldest || millikelvin > WARMEST)
-        return refused(WOOLYARD_TEMPERATURE_OUT_OF_RANGE, figures);
-    if (pascals < LOWEST_PASCALS || pascals > HIGHEST_PASCALS)
-        return refused(WOOLYARD_PRESSURE_OUT_OF_RANGE, figures);
+    if (millikelvin < coldest)
+        return refused(WOOLYARD_TEMPERATURE_TOO_LOW, figures);
+    if (millikelvin > WARMEST)
+        return refused(WOOLYARD_TEMPERATURE_TOO_HIGH, figures);
+    if (pascals < LOWEST_PASCALS)
+        return refused(WOOLYARD_PRESSURE_TOO_LOW, figures);
+    if (pascals > HIGHEST_PASCALS)
+        return refused(WOOLYARD_PRESSURE_TOO_HIGH, figures);
 
     double temperature = (int64_t)millikelvin, pressure = (int64_t)pascals;
     double critical_temperature, critical_pressure, molar_mass;

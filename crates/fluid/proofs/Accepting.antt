@@ -1,16 +1,18 @@
 -- An accepted state is one to which no check applies, and what is found out of range is the first check that applies. Assumes nothing.
 use mathlib.Core.Path.{_≡_, refl, sym, subst, _∙_}
-use mathlib.Core.Logic.{_⊎_, inl, inr, ⊎-elim}
+use mathlib.Core.Logic.{_⊎_, inl, inr}
+use mathlib.Core.List.{_++_}
 use Prim.Native.Nat.{ℕ, zero, suc, _≤_, _<_}
 use native.Mathlib.Omega.{arith}
 use native.Mathlib.Decide.{decLt}
-use Rattle.refusals.specs.declared.Refusal.the-variants.{NoSuchFluid, TemperatureOutOfRange, PressureOutOfRange}
+use Rattle.refusals.specs.declared.Refusal.the-variants.{NoSuchFluid, TemperatureTooLow, TemperatureTooHigh, PressureTooLow, PressureTooHigh}
+use Rattle.refusals.proofs.Lists.{none-both, first-front, first-behind}
 use Rattle.refusals.proofs.Theorems.{EachDecided}
 use Rattle.refusals.specs.Checks.{NoneOf, FirstOf}
 use Rattle.fluid.specs.declared.choice.Fluid.{Fluid}
 use Rattle.fluid.specs.declared.choice.Fluid.the-variants.{Hydrogen, Oxygen}
 use Rattle.fluid.specs.Figures.{numberOf, coldest, hottest, lowest, highest, Accepted}
-use Rattle.fluid.specs.Checks.{OfFluid, fluidChecks, stateChecks}
+use Rattle.fluid.specs.Checks.{OfFluid, fluidChecks, temperatureChecks, pressureChecks, rangeChecks, stateChecks}
 use Rattle.fluid.proofs.Fluids.{number-determines-fluid}
 
 -- what holds of the fluid of a number holds of any fluid of that number
@@ -28,57 +30,82 @@ is-fluid fluid is-number = (λ none. none fluid is-number, tt)
 pub unknown-fluid : (number millikelvin pascals : ℕ) {refusal : ℕ} → refusal ≡ 1 → ((fluid : Fluid) → number ≡ numberOf fluid → ⊥) → FirstOf (stateChecks number millikelvin pascals) refusal
 unknown-fluid number millikelvin pascals is-1 none = inl (none, is-1)
 
+coldest-below-hottest : (fluid : Fluid) → coldest fluid < hottest
+coldest-below-hottest Hydrogen = omega arith
+coldest-below-hottest Oxygen = omega arith
+
 module _ {number : ℕ} (fluid : Fluid) (is-number : number ≡ numberOf fluid) (millikelvin pascals : ℕ) where
-  in-range : coldest fluid ≤ millikelvin → millikelvin ≤ hottest → OfFluid number (λ other. (millikelvin < coldest other) ⊎ (hottest < millikelvin)) → ⊥
-  in-range from to out = ⊎-elim (λ cold. omega arith) (λ hot. omega arith) (of-fluid fluid is-number out)
+  not-cold : coldest fluid ≤ millikelvin → OfFluid number (λ other. millikelvin < coldest other) → ⊥
+  not-cold from out = omega (arith, of-fluid fluid is-number out)
 
-  pub wrong-temperature : {refusal : ℕ} → refusal ≡ 2 → (millikelvin < coldest fluid) ⊎ (hottest < millikelvin) → FirstOf (stateChecks number millikelvin pascals) refusal
-  wrong-temperature is-2 out = inr (is-fluid fluid is-number .0, inl (record { fluid = fluid; is-number = is-number; holds = out }, is-2))
+  by-temperature : {refusal : ℕ} → FirstOf (temperatureChecks number millikelvin) refusal → FirstOf (stateChecks number millikelvin pascals) refusal
+  by-temperature {refusal} first =
+      first-behind (fluidChecks number) (rangeChecks number millikelvin pascals) refusal (is-fluid fluid is-number)
+      (first-front (temperatureChecks number millikelvin) (pressureChecks pascals) refusal first)
 
-  pub wrong-pressure : {refusal : ℕ} → refusal ≡ 3 → coldest fluid ≤ millikelvin → millikelvin ≤ hottest → (pascals < lowest) ⊎ (highest < pascals) → FirstOf (stateChecks number millikelvin pascals) refusal
-  wrong-pressure is-3 from to out = inr (is-fluid fluid is-number .0, inr (in-range from to, inl (out, is-3)))
+  pub too-cold : {refusal : ℕ} → refusal ≡ 21 → millikelvin < coldest fluid → FirstOf (stateChecks number millikelvin pascals) refusal
+  too-cold is-21 out = by-temperature (inl (record { fluid = fluid; is-number = is-number; holds = out }, is-21))
+
+  pub too-hot : {refusal : ℕ} → refusal ≡ 22 → hottest < millikelvin → FirstOf (stateChecks number millikelvin pascals) refusal
+  too-hot is-22 out = by-temperature (inr (not-cold (omega (arith, coldest-below-hottest fluid)), inl (out, is-22)))
+
+  module _ (from : coldest fluid ≤ millikelvin) (to : millikelvin ≤ hottest) where
+    good-temperature : NoneOf (fluidChecks number ++ temperatureChecks number millikelvin)
+    good-temperature = (is-fluid fluid is-number .0, (not-cold from, (λ out. omega arith, tt)))
+
+    by-pressure : {refusal : ℕ} → FirstOf (pressureChecks pascals) refusal → FirstOf (stateChecks number millikelvin pascals) refusal
+    by-pressure {refusal} = first-behind (fluidChecks number ++ temperatureChecks number millikelvin) (pressureChecks pascals) refusal good-temperature
+
+    pub too-low : {refusal : ℕ} → refusal ≡ 31 → pascals < lowest → FirstOf (stateChecks number millikelvin pascals) refusal
+    too-low is-31 out = by-pressure (inl (out, is-31))
+
+    pub too-high : {refusal : ℕ} → refusal ≡ 32 → highest < pascals → FirstOf (stateChecks number millikelvin pascals) refusal
+    too-high is-32 out = by-pressure (inr (λ low. omega arith, inl (out, is-32)))
 
   pub passes : Accepted fluid millikelvin pascals → NoneOf (stateChecks number millikelvin pascals)
   passes accepted =
-      (is-fluid fluid is-number .0, (in-range (accepted .from-coldest) (accepted .to-hottest), (⊎-elim (λ low. omega arith) (λ high. omega arith), tt)))
+      none-both (fluidChecks number ++ temperatureChecks number millikelvin) (pressureChecks pascals)
+      (good-temperature (accepted .from-coldest) (accepted .to-hottest))
+      (λ out. omega arith, (λ out. omega arith, tt))
 
   pub accepts : NoneOf (stateChecks number millikelvin pascals) → Accepted fluid millikelvin pascals
   accepts none =
-      let temperature : (millikelvin < coldest fluid) ⊎ (hottest < millikelvin) → ⊥ = λ out. none .1 .0 (record { fluid = fluid; is-number = is-number; holds = out }) in
-      let cold : millikelvin < coldest fluid → ⊥ = λ out. temperature (inl out) in
-      let hot : hottest < millikelvin → ⊥ = λ out. temperature (inr out) in
-      let low : pascals < lowest → ⊥ = λ out. none .1 .1 .0 (inl out) in
-      let high : highest < pascals → ⊥ = λ out. none .1 .1 .0 (inr out) in
+      let cold : millikelvin < coldest fluid → ⊥ = λ out. none .1 .0 (record { fluid = fluid; is-number = is-number; holds = out }) in
+      let hot : hottest < millikelvin → ⊥ = none .1 .1 .0 in
+      let low : pascals < lowest → ⊥ = none .1 .1 .1 .0 in
+      let high : highest < pascals → ⊥ = none .1 .1 .1 .1 .0 in
       record { from-coldest = omega arith; to-hottest = omega arith; from-lowest = omega arith; to-highest = omega arith }
 
 -- each check can be decided
-pub either : {A B : Type 0} → Dec A → Dec B → Dec (A ⊎ B)
-either (yes a) b = yes (inl a)
-either (no f) (yes b) = yes (inr b)
-either (no f) (no g) = no (⊎-elim f g)
-
 pub fluid-or-none : (number : ℕ) → ((fluid : Fluid) × (number ≡ numberOf fluid)) ⊎ ((fluid : Fluid) → number ≡ numberOf fluid → ⊥)
 fluid-or-none zero = inl (Hydrogen, refl)
 fluid-or-none (suc zero) = inl (Oxygen, refl)
 fluid-or-none (suc (suc number)) = inr (no-fluid (λ same. omega arith) (λ same. omega arith))
 
 pub state-decided : (number millikelvin pascals : ℕ) → EachDecided (stateChecks number millikelvin pascals)
-state-decided number millikelvin pascals = (
-  record { refusal = NoSuchFluid; is-number = refl; decide = unknown (fluid-or-none number) },
-  (
-    record { refusal = TemperatureOutOfRange; is-number = refl; decide = temperature (fluid-or-none number) },
-    (record { refusal = PressureOutOfRange; is-number = refl; decide = either (decLt pascals lowest) (decLt highest pascals) }, tt),
-  ),
-)
+state-decided number millikelvin pascals =
+    let known = fluid-or-none number in (
+      record { refusal = NoSuchFluid; is-number = refl; decide = unknown known },
+      (
+        record { refusal = TemperatureTooLow; is-number = refl; decide = cold known },
+        (
+          record { refusal = TemperatureTooHigh; is-number = refl; decide = decLt hottest millikelvin },
+          (
+            record { refusal = PressureTooLow; is-number = refl; decide = decLt pascals lowest },
+            (record { refusal = PressureTooHigh; is-number = refl; decide = decLt highest pascals }, tt),
+          ),
+        ),
+      ),
+    )
   where
     unknown : ((fluid : Fluid) × (number ≡ numberOf fluid)) ⊎ ((fluid : Fluid) → number ≡ numberOf fluid → ⊥) → Dec ((fluid : Fluid) → number ≡ numberOf fluid → ⊥)
     unknown (inl known) = no (λ none. none (known .0) (known .1))
     unknown (inr none) = yes none
 
-    of-known : (fluid : Fluid) → number ≡ numberOf fluid → Dec ((millikelvin < coldest fluid) ⊎ (hottest < millikelvin)) → Dec (OfFluid number (λ other. (millikelvin < coldest other) ⊎ (hottest < millikelvin)))
+    of-known : (fluid : Fluid) → number ≡ numberOf fluid → Dec (millikelvin < coldest fluid) → Dec (OfFluid number (λ other. millikelvin < coldest other))
     of-known fluid is-number (yes out) = yes (record { fluid = fluid; is-number = is-number; holds = out })
     of-known fluid is-number (no f) = no (λ given. f (of-fluid fluid is-number given))
 
-    temperature : ((fluid : Fluid) × (number ≡ numberOf fluid)) ⊎ ((fluid : Fluid) → number ≡ numberOf fluid → ⊥) → Dec (OfFluid number (λ other. (millikelvin < coldest other) ⊎ (hottest < millikelvin)))
-    temperature (inl known) = of-known (known .0) (known .1) (either (decLt millikelvin (coldest (known .0))) (decLt hottest millikelvin))
-    temperature (inr none) = no (λ given. none (given .fluid) (given .is-number))
+    cold : ((fluid : Fluid) × (number ≡ numberOf fluid)) ⊎ ((fluid : Fluid) → number ≡ numberOf fluid → ⊥) → Dec (OfFluid number (λ fluid. millikelvin < coldest fluid))
+    cold (inl known) = of-known (known .0) (known .1) (decLt millikelvin (coldest (known .0)))
+    cold (inr none) = no (λ given. none (given .fluid) (given .is-number))

@@ -35,23 +35,23 @@ pub enum Reduction {
     Refused(Refusal),
 }
 
-// The temperature is looked at before the pressure.
+// The temperature is looked at before the pressure; its upper end first, as `figures_at` wants no hotter.
 fn reduce_fluid(fluid: Fluid, millikelvin: u64, pascals: u64) -> Reduction
     ensures { λ r. ⌜ ReducesTo (numberOf fluid) millikelvin pascals (reduction r) ⌝ }
 {
     if HOTTEST_MILLIKELVIN < millikelvin {
-        return Reduction::Refused(Refusal::TemperatureOutOfRange); // too hot
+        return Reduction::Refused(Refusal::TemperatureTooHigh);
     }
     let figures = figures_at(fluid, millikelvin);
     let coldest = figures.coldest_millikelvin;
     if millikelvin < coldest {
-        return Reduction::Refused(Refusal::TemperatureOutOfRange); // too cold
+        return Reduction::Refused(Refusal::TemperatureTooLow);
     }
     if pascals < LOWEST_PASCALS {
-        return Reduction::Refused(Refusal::PressureOutOfRange); // too low
+        return Reduction::Refused(Refusal::PressureTooLow);
     }
     if HIGHEST_PASCALS < pascals {
-        return Reduction::Refused(Refusal::PressureOutOfRange); // too high
+        return Reduction::Refused(Refusal::PressureTooHigh);
     }
     let t = 10_000 * millikelvin / figures.critical_millikelvin;
     let p = 1_000_000 * pascals / figures.critical_pascals;

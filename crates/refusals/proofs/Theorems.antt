@@ -7,7 +7,7 @@ use mathlib.Core.Bool.{cond}
 use Prim.Native.Nat.{ℕ}
 use lib.Dec.{eqb}
 use Rattle.refusals.specs.declared.Refusal.{Refusal}
-use Rattle.refusals.specs.declared.Refusal.the-variants.{NoSuchFluid, TemperatureOutOfRange, PressureOutOfRange, NoSuchSlot}
+use Rattle.refusals.specs.declared.Refusal.the-variants.{NoSuchFluid, TemperatureTooLow, TemperatureTooHigh, PressureTooLow, PressureTooHigh, NoSuchSlot}
 use Rattle.refusals.specs.Numbers.{numberOfRefusal}
 use Rattle.refusals.proofs.Lists.{none-or-first}
 use Rattle.refusals.specs.Checks.{Check, NoneOf, FirstOf, Tells, refuses, answers, Outcome, with-value, with-number, Gives}
@@ -65,13 +65,15 @@ find number [] = NoSuchFluid
 find number (refusal ∷ refusals) = cond (eqb (numberOfRefusal refusal) number) refusal (find number refusals)
 
 pub refusalOf : ℕ → Refusal
-refusalOf number = find number (NoSuchFluid ∷ TemperatureOutOfRange ∷ PressureOutOfRange ∷ NoSuchSlot ∷ [])
+refusalOf number = find number (NoSuchFluid ∷ TemperatureTooLow ∷ TemperatureTooHigh ∷ PressureTooLow ∷ PressureTooHigh ∷ NoSuchSlot ∷ [])
 
 pub refusal-of-number : (refusal : Refusal) → refusalOf (numberOfRefusal refusal) ≡ refusal
 unfolding refusalOf find
 refusal-of-number NoSuchFluid = refl
-refusal-of-number TemperatureOutOfRange = refl
-refusal-of-number PressureOutOfRange = refl
+refusal-of-number TemperatureTooLow = refl
+refusal-of-number TemperatureTooHigh = refl
+refusal-of-number PressureTooLow = refl
+refusal-of-number PressureTooHigh = refl
 refusal-of-number NoSuchSlot = refl
 
 -- two answers that keep what `number` promises are equal

@@ -1,10 +1,12 @@
--- Document 01, "Replies": the number of each refusal of a state.
+-- Document 01, "Replies", and document 02, C-12: the number of each refusal of a state.
 use Prim.Native.Nat.{ℕ}
 use Rattle.refusals.specs.declared.Refusal.{Refusal}
-use Rattle.refusals.specs.declared.Refusal.the-variants.{NoSuchFluid, TemperatureOutOfRange, PressureOutOfRange, NoSuchSlot}
+use Rattle.refusals.specs.declared.Refusal.the-variants.{NoSuchFluid, TemperatureTooLow, TemperatureTooHigh, PressureTooLow, PressureTooHigh, NoSuchSlot}
 
 abbrev pub numberOfRefusal : Refusal → ℕ
 numberOfRefusal NoSuchFluid = 1
-numberOfRefusal TemperatureOutOfRange = 2
-numberOfRefusal PressureOutOfRange = 3
+numberOfRefusal TemperatureTooLow = 21
+numberOfRefusal TemperatureTooHigh = 22
+numberOfRefusal PressureTooLow = 31
+numberOfRefusal PressureTooHigh = 32
 numberOfRefusal NoSuchSlot = 4

@@ -5,8 +5,10 @@ ghost use Rattle.refusals.specs.Numbers.{numberOfRefusal};
 
 pub enum Refusal {
     NoSuchFluid,
-    TemperatureOutOfRange,
-    PressureOutOfRange,
+    TemperatureTooLow,
+    TemperatureTooHigh,
+    PressureTooLow,
+    PressureTooHigh,
     NoSuchSlot,
 }
 
@@ -16,8 +18,10 @@ impl Refusal {
     {
         match self {
             Refusal::NoSuchFluid => 1,
-            Refusal::TemperatureOutOfRange => 2,
-            Refusal::PressureOutOfRange => 3,
+            Refusal::TemperatureTooLow => 21,
+            Refusal::TemperatureTooHigh => 22,
+            Refusal::PressureTooLow => 31,
+            Refusal::PressureTooHigh => 32,
             Refusal::NoSuchSlot => 4,
         }
     }

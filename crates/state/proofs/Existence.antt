@@ -1,8 +1,8 @@
 -- Every state has a reply, with a book and without one: each check can be decided, and where none applies there is an answer. Assumes nothing.
 use mathlib.Core.Path.{_≡_, refl}
-use mathlib.Core.Logic.{_⊎_, inl, inr}
+use mathlib.Core.Logic.{_⊎_, inl, inr, ⊎-elim}
 use mathlib.Core.List.{List, _++_}
-use Prim.Native.Nat.{ℕ}
+use Prim.Native.Nat.{ℕ, _<_}
 use native.Mathlib.Decide.{decLt, ℕ-discrete}
 use Rattle.refusals.specs.Checks.{Check, NoneOf, Tells, refuses, answers}
 use Rattle.refusals.specs.declared.Refusal.the-variants.{NoSuchSlot}
@@ -11,7 +11,7 @@ use Rattle.refusals.proofs.Theorems.{EachDecided, decided-both, First, first-or
 use Rattle.cubic.specs.Cubic.{Kind, ONE, SPLIT, IsKind}
 use Rattle.cubic.proofs.Theorems.{kind-exists}
 use Rattle.fluid.specs.Checks.{stateChecks}
-use Rattle.fluid.proofs.Accepting.{either, state-decided}
+use Rattle.fluid.proofs.Accepting.{state-decided}
 use Rattle.roots.proofs.Theorems.{roots-exist}
 use Rattle.densities.specs.Densities.{density}
 use Rattle.replies.specs.declared.Reply.{Reply}
@@ -46,8 +46,9 @@ module _ (number millikelvin pascals : ℕ) where
   pub slot-decided : (slot length : ℕ) → EachDecided (stateChecks number millikelvin pascals ++ slotChecks slot length)
   slot-decided slot length =
       decided-both (stateChecks number millikelvin pascals) (slotChecks slot length) (state-decided number millikelvin pascals)
-      (record { refusal = NoSuchSlot; is-number = refl; decide = either (other (ℕ-discrete length 64)) (decLt 63 slot) }, tt)
+      (record { refusal = NoSuchSlot; is-number = refl; decide = either (ℕ-discrete length 64) (decLt 63 slot) }, tt)
     where
-      other : Dec (length ≡ 64) → Dec (length ≡ 64 → ⊥)
-      other (yes same) = no (λ differs. differs same)
-      other (no f) = yes f
+      either : Dec (length ≡ 64) → Dec (63 < slot) → Dec ((length ≡ 64 → ⊥) ⊎ (63 < slot))
+      either (no f) past = yes (inl f)
+      either (yes same) (yes past) = yes (inr past)
+      either (yes same) (no f) = no (⊎-elim (λ differs. differs same) f)

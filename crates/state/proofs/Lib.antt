@@ -3,3 +3,4 @@ pub mod Answering
 pub mod Determined
 pub mod Existence
 pub mod Theorems
+pub mod Finer

@@ -53,8 +53,8 @@ fn print_state(fluid: u64, millikelvin: u64, pascals: u64, slot: u64, book: &mut
 }
 
 // Every pair of the two tables, for one fluid and then the other in the same slot: where both are
-// answered, each finds the other's root there. Answers how many states it asked, as `print_refusals` and
-// `print_walk` do.
+// answered, each finds the other's root there. Answers how many states it asked, as `print_sides`,
+// `print_refusals` and `print_walk` do.
 fn print_pairs(book: &mut [u32]) -> u64
     ensures { λ r. ⌜ r ≡ 2 * 58 * 42 ⌝ }
 {
@@ -70,17 +70,26 @@ fn print_pairs(book: &mut [u32]) -> u64
     asked
 }
 
-// Each refusal where every later one applies too.
+// Each side of a range where every later refusal applies too.
+fn print_sides(book: &mut [u32]) -> u64
+    ensures { λ r. ⌜ r ≡ 4 ⌝ }
+{
+    print_state(1, 0, 0, SLOTS, book);
+    print_state(1, LARGEST, LARGEST, SLOTS, book);
+    print_state(1, 300_000, 0, SLOTS, book);
+    print_state(1, 300_000, LARGEST, SLOTS, book);
+    4
+}
+
+// Each other refusal likewise.
 fn print_refusals(book: &mut [u32]) -> u64
-    ensures { λ r. ⌜ r ≡ 6 ⌝ }
+    ensures { λ r. ⌜ r ≡ 4 ⌝ }
 {
     print_state(2, 0, 0, SLOTS, book);
     print_state(LARGEST, LARGEST, LARGEST, LARGEST, book);
-    print_state(1, 0, 0, SLOTS, book);
-    print_state(1, 300_000, 0, SLOTS, book);
     print_state(1, 300_000, 1_000_000, SLOTS, book);
     print_state(0, 300_000, 1_000_000, LARGEST, book);
-    6
+    4
 }
 
 // Park and Miller's generator: the same numbers in every run, each below the prime 2^31 - 1.
@@ -141,9 +150,10 @@ fn main() {
     let mut book = MISLEADING;
     print_book(&book);
     let pairs = print_pairs(&mut book);
+    let sides = print_sides(&mut book);
     let refusals = print_refusals(&mut book);
     let walk = print_walk(&mut book);
     print_book(&book);
-    io::print_decimal(STDOUT_FILENO, pairs + refusals + walk);
+    io::print_decimal(STDOUT_FILENO, pairs + sides + refusals + walk);
     io::write_all(STDOUT_FILENO, b" states\n");
 }

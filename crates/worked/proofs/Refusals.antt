@@ -8,7 +8,7 @@ use Rattle.fluid.specs.declared.choice.Fluid.{Fluid}
 use Rattle.fluid.specs.declared.choice.Fluid.the-variants.{Hydrogen, Oxygen}
 use Rattle.fluid.specs.Figures.{numberOf, coldest, hottest, lowest, highest, Accepted}
 use Rattle.fluid.specs.Checks.{stateChecks}
-use Rattle.fluid.proofs.Accepting.{no-fluid, unknown-fluid, wrong-temperature, wrong-pressure, passes}
+use Rattle.fluid.proofs.Accepting.{no-fluid, unknown-fluid, too-cold, too-hot, too-low, too-high, passes}
 use Rattle.replies.specs.Figures.{refusedWith}
 use Rattle.state.specs.Book.{slotChecks}
 use Rattle.worked.specs.Rows.{Span, Replied, RightRefusal}
@@ -30,14 +30,17 @@ module _ (number millikelvin refusal : ℕ) where
   module _ (fluid : Fluid) where
     abbrev pub temperature : Tested ((pascals : ℕ) → FirstOf (stateChecks number millikelvin pascals) refusal)
     temperature =
-        by (λ is-2 is-number out pascals. wrong-temperature fluid is-number millikelvin pascals is-2 out)
-        with equal refusal 2 with equal number (numberOf fluid) with (by inl with below millikelvin (coldest fluid) or by inr with below hottest millikelvin)
+        by (λ is-number is-21 out pascals. too-cold fluid is-number millikelvin pascals is-21 out)
+        with equal number (numberOf fluid) with equal refusal 21 with below millikelvin (coldest fluid)
+        or by (λ is-number is-22 out pascals. too-hot fluid is-number millikelvin pascals is-22 out)
+        with equal number (numberOf fluid) with equal refusal 22 with below hottest millikelvin
 
     abbrev pub pressure : (pascals : ℕ) → Tested (FirstOf (stateChecks number millikelvin pascals) refusal)
     pressure pascals =
-        by (λ is-3 is-number from to out. wrong-pressure fluid is-number millikelvin pascals is-3 from to out)
-        with equal refusal 3 with equal number (numberOf fluid) with at-most (coldest fluid) millikelvin with at-most millikelvin hottest
-        with (by inl with below pascals lowest or by inr with below highest pascals)
+        by (λ is-number from to is-31 out. too-low fluid is-number millikelvin pascals from to is-31 out)
+        with equal number (numberOf fluid) with at-most (coldest fluid) millikelvin with at-most millikelvin hottest with equal refusal 31 with below pascals lowest
+        or by (λ is-number from to is-32 out. too-high fluid is-number millikelvin pascals from to is-32 out)
+        with equal number (numberOf fluid) with at-most (coldest fluid) millikelvin with at-most millikelvin hottest with equal refusal 32 with below highest pascals
 
     pub past-slots : refusal ≡ 4 → number ≡ numberOf fluid → (pascals slot : ℕ) → Accepted fluid millikelvin pascals → 63 < slot → Replied number millikelvin pascals slot (refusedWith refusal)
     past-slots is-4 is-number pascals slot accepted past =

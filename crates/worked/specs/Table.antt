@@ -1,4 +1,4 @@
--- Document 01, "Points worked through": the starred points, in its order. What a row says is in Rows.antt; that every row is right is
+-- Document 01, "Points worked through": the starred points, in its order, with the 21 and 31 of document 02's C-12. What a row says is in Rows.antt; that every row is right is
 -- `starred-points`, in proofs/Theorems.antt. Where the paper names no pressure a row is for all of them, and where it names no slot for
 -- every slot that leads to the same reply, which for an answer is every one up to 63.
 use mathlib.Core.List.{List, [], _∷_}
@@ -16,8 +16,8 @@ table =
     ∷ value 7984 1106 92696 (negℤ (pos 84314720))
     ∷ answered Hydrogen 300000 1000000 42083 1907366 (record { t = 71287; p = 524283; s = 26699; a = 165; b = 637 }) (up-to 63) (One 100474 804)
     ∷ answered Hydrogen 1000000 10000 43133 2002851 (record { t = 231841; p = 4992; s = 48149; a = 0; b = 1 }) (up-to 63) (One 100001 2)
-    ∷ refused 1 55999 all all 2
-    ∷ refused 1 56000 (only 9999) all 3
+    ∷ refused 1 55999 all all 21
+    ∷ refused 1 56000 (only 9999) all 31
     ∷ answered Oxygen 56000 10000 154576 5042000 (record { t = 3622; p = 1983; s = 6018; a = 1073; b = 47 }) (up-to 63) (Split 98963 51 694 1347613)
     ∷ answered Oxygen 56000 50000000 154576 5042000 (record { t = 3622; p = 9916699; s = 6018; a = 5369500; b = 237212 }) (up-to 63) (One 256275 1340909)
     ∷ refused 2 0 all all 1

@@ -168,7 +168,9 @@ fn refused_states() {
     asked(1, 56_000, 50_000_001);
     asked(2, 0, 1_000_000);
     asked(2, 0, 0);
+    asked(2, 1_000_001, 1_000_000);
     asked(1, 0, 0);
+    asked(1, 1_000_001, 50_000_001);
 }
 
 // A call that is answered writes its gas root into its slot, one that is refused writes nothing.

@@ -1,5 +1,6 @@
-//! A second implementation of document 01, written from the paper alone and in the plainest way:
-//! what the proved crates answer is compared with it. It shares no code with them.
+//! A second implementation of document 01, as document 02's requests amend it, written from the papers
+//! alone and in the plainest way: what the proved crates answer is compared with it. It shares no code
+//! with them.
 
 pub mod cubic;
 pub mod heat;

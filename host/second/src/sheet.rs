@@ -224,7 +224,7 @@ mod tests {
         let expected = "ONE 100474 804
 ONE 99286 12921
 SPLIT 92696 17300
-NO 2
+NO 21
 ";
         assert_eq!(print(EXAMPLE), expected);
     }
@@ -268,7 +268,7 @@ NO 2
             state(OXYGEN, 1_000_000, 50_000_001),
         ];
         assert_eq!(read(sheet), Ok(expected));
-        assert_eq!(print(sheet), "NO 2\nNO 2\nNO 3\nNO 3\n");
+        assert_eq!(print(sheet), "NO 21\nNO 22\nNO 32\nNO 32\n");
     }
 
     #[test]

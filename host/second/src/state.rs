@@ -1,5 +1,6 @@
-//! Document 01, "Replies" to "The book of starting points": the reply to a state, as the paper writes
-//! it. Every product has 128 bits, so that none needs a thought.
+//! Document 01, "Replies" to "The book of starting points", with the finer refusals of document 02's
+//! C-12: the reply to a state, as the papers write it. Every product has 128 bits, so that none needs a
+//! thought.
 
 use crate::cubic::crossings;
 
@@ -117,11 +118,17 @@ pub fn reply(fluid: u64, millikelvin: u64, pascals: u64) -> Reply {
     if ![HYDROGEN, OXYGEN].contains(&fluid) {
         return refused(1);
     }
-    if !(COLDEST[fluid as usize]..=HOTTEST).contains(&millikelvin) {
-        return refused(2);
+    if millikelvin < COLDEST[fluid as usize] {
+        return refused(21);
     }
-    if !(LOWEST_PRESSURE..=HIGHEST_PRESSURE).contains(&pascals) {
-        return refused(3);
+    if millikelvin > HOTTEST {
+        return refused(22);
+    }
+    if pascals < LOWEST_PRESSURE {
+        return refused(31);
+    }
+    if pascals > HIGHEST_PRESSURE {
+        return refused(32);
     }
     let Reduced { a, b, .. } = reduced(&critical(fluid, millikelvin), millikelvin, pascals);
     let found = crossings(a, b);
@@ -250,16 +257,49 @@ mod tests {
 
     #[test]
     fn ends_of_the_ranges() {
-        assert_eq!(reply(OXYGEN, 55_999, 500_000), refused(2));
-        assert_eq!(reply(OXYGEN, 56_000, 9_999), refused(3));
+        assert_eq!(reply(OXYGEN, 55_999, 500_000), refused(21));
+        assert_eq!(reply(OXYGEN, 56_000, 9_999), refused(31));
         assert_eq!(reply(OXYGEN, 56_000, 10_000).number, 0);
         assert_eq!(reply(OXYGEN, 56_000, 50_000_000).number, 0);
-        assert_eq!(reply(OXYGEN, 56_000, 50_000_001), refused(3));
-        assert_eq!(reply(OXYGEN, 1_000_000, 10_000).number, 0);
-        assert_eq!(reply(OXYGEN, 1_000_001, 10_000), refused(2));
-        assert_eq!(reply(HYDROGEN, 13_999, 10_000), refused(2));
-        assert_eq!(reply(HYDROGEN, 14_000, 10_000).number, 0);
         assert_eq!(reply(2, 0, 0), refused(1));
+    }
+
+    /// One below, at and one above each end of a range, with every such value of the other number and
+    /// with a good, a low and a high one; a temperature out of range is told before a pressure.
+    #[test]
+    fn sides_of_the_ranges() {
+        let pressures = [
+            (0, 31),
+            (9_999, 31),
+            (10_000, 0),
+            (10_001, 0),
+            (1_000_000, 0),
+            (49_999_999, 0),
+            (50_000_000, 0),
+            (50_000_001, 32),
+            (u64::MAX, 32),
+        ];
+        for (fluid, coldest) in [(HYDROGEN, 14_000), (OXYGEN, 56_000)] {
+            let temperatures = [
+                (0, 21),
+                (coldest - 1, 21),
+                (coldest, 0),
+                (coldest + 1, 0),
+                (300_000, 0),
+                (999_999, 0),
+                (1_000_000, 0),
+                (1_000_001, 22),
+                (u64::MAX, 22),
+            ];
+            for (millikelvin, by_temperature) in temperatures {
+                for (pascals, by_pressure) in pressures {
+                    let expected = [by_temperature, by_pressure].into_iter().find(|&n| n != 0);
+                    let number = reply(fluid, millikelvin, pascals).number;
+                    assert_eq!(number, expected.unwrap_or(0));
+                    assert_eq!(reply(2, millikelvin, pascals), refused(1));
+                }
+            }
+        }
     }
 
     /// The first refusal that applies is the one given, and none writes.
@@ -270,8 +310,10 @@ mod tests {
             reply_with_book(fluid, millikelvin, pascals, 64, &mut book)
         };
         assert_eq!(call(2, 0, 0), refused(1));
-        assert_eq!(call(OXYGEN, 0, 0), refused(2));
-        assert_eq!(call(OXYGEN, 300_000, 0), refused(3));
+        assert_eq!(call(OXYGEN, 0, 0), refused(21));
+        assert_eq!(call(OXYGEN, u64::MAX, 0), refused(22));
+        assert_eq!(call(OXYGEN, 300_000, 0), refused(31));
+        assert_eq!(call(OXYGEN, 300_000, u64::MAX), refused(32));
         assert_eq!(call(OXYGEN, 300_000, 1_000_000), refused(4));
         assert_eq!(book, [7; BOOK]);
     }

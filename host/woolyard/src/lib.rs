@@ -2,9 +2,9 @@
 //! capacity, and state sheets.
 //!
 //! Safe Rust over `libwoolyard.a`, whose functions are proved to answer what document 01 (rules and
-//! scope of the build) defines. Every function answers every input, and the caller checks nothing
-//! first. None keeps a reference, allocates, or has state of its own, so calls may run at the same
-//! time.
+//! scope of the build) defines, as later requests amend it. Every function answers every input, and
+//! the caller checks nothing first. None keeps a reference, allocates, or has state of its own, so
+//! calls may run at the same time.
 //!
 //! ```
 //! use woolyard::{Fluid, Kind, Refusal};
@@ -15,7 +15,7 @@
 //! assert_eq!((answer.dense_root, answer.dense_density), (1699, 943_884));
 //!
 //! let refused = woolyard::state(Fluid::Oxygen, 55_999, 500_000);
-//! assert_eq!(refused, Err(Refusal::TemperatureOutOfRange));
+//! assert_eq!(refused, Err(Refusal::TemperatureTooLow));
 //! # Ok::<(), Refusal>(())
 //! ```
 
@@ -33,7 +33,7 @@ pub const BOOK_LENGTH: usize = 64;
 /// How many bytes a sheet may have.
 pub const SHEET_MOST_BYTES: usize = 65_536;
 
-/// The reply to a state: its five figures, or the first of refusals 2 and 3 that applies.
+/// The reply to a state: its five figures, or the first of refusals 21, 22, 31 and 32 that applies.
 pub fn state(fluid: Fluid, millikelvin: u64, pascals: u64) -> Result<Answer, Refusal> {
     let mut figures = [0; FIGURES];
     let number = boundary::state(fluid.number(), millikelvin, pascals, &mut figures);
@@ -43,7 +43,7 @@ pub fn state(fluid: Fluid, millikelvin: u64, pascals: u64) -> Result<Answer, Ref
 /// The same with a book of starting points, 64 numbers of 32 bits, holding anything at all. An answered
 /// call writes the gas root into its slot and touches no other place; a refused call writes nothing to
 /// the book. What the book holds changes how long an answer takes, never what it is. The first of
-/// refusals 2, 3 and 4 that applies is given.
+/// refusals 21, 22, 31, 32 and 4 that applies is given.
 pub fn state_with_book(
     fluid: Fluid,
     millikelvin: u64,

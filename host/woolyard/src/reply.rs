@@ -62,8 +62,10 @@ pub struct State {
 #[derive(Clone, Copy, Debug, PartialEq, Eq, Hash)]
 pub enum Refusal {
     NoSuchFluid = 1,
-    TemperatureOutOfRange = 2,
-    PressureOutOfRange = 3,
+    TemperatureTooLow = 21,
+    TemperatureTooHigh = 22,
+    PressureTooLow = 31,
+    PressureTooHigh = 32,
     NoSuchSlot = 4,
     HeatOutOfRange = 5,
     SheetMalformed = 6,
@@ -72,10 +74,12 @@ pub enum Refusal {
 }
 
 impl Refusal {
-    const ALL: [Refusal; 8] = [
+    const ALL: [Refusal; 10] = [
         Refusal::NoSuchFluid,
-        Refusal::TemperatureOutOfRange,
-        Refusal::PressureOutOfRange,
+        Refusal::TemperatureTooLow,
+        Refusal::TemperatureTooHigh,
+        Refusal::PressureTooLow,
+        Refusal::PressureTooHigh,
         Refusal::NoSuchSlot,
         Refusal::HeatOutOfRange,
         Refusal::SheetMalformed,
@@ -102,8 +106,10 @@ impl fmt::Display for Refusal {
     fn fmt(&self, text: &mut fmt::Formatter<'_>) -> fmt::Result {
         text.write_str(match self {
             Refusal::NoSuchFluid => "fluid is neither 0 nor 1",
-            Refusal::TemperatureOutOfRange => "temperature out of range",
-            Refusal::PressureOutOfRange => "pressure out of range",
+            Refusal::TemperatureTooLow => "temperature below the fluid's range",
+            Refusal::TemperatureTooHigh => "temperature above the fluid's range",
+            Refusal::PressureTooLow => "pressure below the range",
+            Refusal::PressureTooHigh => "pressure above the range",
             Refusal::NoSuchSlot => "book not of 64 numbers, or slot above 63",
             Refusal::HeatOutOfRange => "heat-capacity temperature not a number in 14 to 1000 K",
             Refusal::SheetMalformed => "sheet badly formed",

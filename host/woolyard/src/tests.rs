@@ -40,10 +40,13 @@ fn states() {
 #[test]
 fn ends_of_the_ranges() {
     let oxygen = |millikelvin, pascals| state(Fluid::Oxygen, millikelvin, pascals);
-    assert_eq!(oxygen(55_999, 0), Err(Refusal::TemperatureOutOfRange));
-    assert_eq!(oxygen(56_000, 9_999), Err(Refusal::PressureOutOfRange));
+    assert_eq!(oxygen(55_999, 0), Err(Refusal::TemperatureTooLow));
+    assert_eq!(oxygen(1_000_001, 0), Err(Refusal::TemperatureTooHigh));
+    assert_eq!(oxygen(56_000, 9_999), Err(Refusal::PressureTooLow));
+    assert_eq!(oxygen(56_000, 50_000_001), Err(Refusal::PressureTooHigh));
     assert!(oxygen(56_000, 10_000).is_ok());
     assert!(oxygen(56_000, 50_000_000).is_ok());
+    assert!(oxygen(1_000_000, 10_000).is_ok());
 }
 
 #[test]

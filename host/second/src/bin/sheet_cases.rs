@@ -143,6 +143,7 @@ fn escaped_byte(byte: u8) -> String {
 fn long() -> Vec<(&'static str, Vec<u8>)> {
     vec![
         ("full", full()),
+        ("sides", sides()),
         ("longest", filled(&largest(), LONGEST)),
         ("too_long", filled(b"0\n0\n", LONGEST + 1)),
         ("after_end_long_line", filled(EXAMPLE, 1000)),
@@ -182,6 +183,26 @@ fn full() -> Vec<u8> {
         sheet += "1000\n";
         for [millikelvin, pascals] in states {
             sheet += &format!("{millikelvin} {pascals}\n");
+        }
+    }
+    sheet.into()
+}
+
+/// For each fluid one below, at and one above each end of the ranges, and a good number, a low one and a
+/// high one, each temperature with each pressure.
+fn sides() -> Vec<u8> {
+    let around = |end: u64| [end - 1, end, end + 1];
+    let numbers =
+        |low, good, high| [&[0, good, 9_999_999_999][..], &around(low), &around(high)].concat();
+    let mut sheet = String::new();
+    for coldest in COLDEST {
+        let temperatures = numbers(coldest, 300_000, HOTTEST);
+        let pressures = numbers(LOWEST_PRESSURE, 1_000_000, HIGHEST_PRESSURE);
+        sheet += &format!("{}\n", temperatures.len() * pressures.len());
+        for millikelvin in temperatures {
+            for pascals in &pressures {
+                sheet += &format!("{millikelvin} {pascals}\n");
+            }
         }
     }
     sheet.into()

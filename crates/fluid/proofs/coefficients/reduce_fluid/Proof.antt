@@ -2,11 +2,10 @@
 -- bounds what it is made of. Assumes nothing.
 use mathlib.Core.Path.{_≡_, refl, ap}
 use Prim.Native.Nat.{_*_, _/_}
-use mathlib.Core.Logic.{inl, inr}
 use native.Mathlib.Omega.{arith}
 use Rattle.fluid.specs.declared.choice.Figures.{Figures}
 use Rattle.fluid.specs.Figures.{coldest, Accepted}
-use Rattle.fluid.proofs.Accepting.{wrong-temperature, wrong-pressure, passes}
+use Rattle.fluid.proofs.Accepting.{too-cold, too-hot, too-low, too-high, passes}
 use Rattle.fluid.proofs.Ranges.{Spanned, spanned, Bounds, bounds}
 use Rattle.fluid.proofs.coefficients.reduce_fluid.Statement.{statement}
 use Rattle.fluid.proofs.coefficients.reduce_fluid.Tie as tie
@@ -26,23 +25,27 @@ found : (c : tie.After-square-root) → let figures = c .before .before .before 
 found c = bounds (known (c .before .before .before)) (c .square-root .ensures)
 
 returns : tie.Need-returns
-returns c = wrong-temperature (c .before .args .fluid) refl _ _ refl (inr (omega arith))
+returns c =
+    let start = c .before .args in
+    too-hot (start .fluid) refl (start .millikelvin) (start .pascals) refl (omega arith)
 
 figures-at-requires : tie.Need-figures-at-requires
 figures-at-requires c κs = omega arith
 
 returns-2 : tie.Need-returns-2
-returns-2 c = wrong-temperature (c .before .before .before .args .fluid) refl _ _ refl (inl (omega (arith, is-coldest (c .before))))
+returns-2 c =
+    let start = c .before .before .before .args in
+    too-cold (start .fluid) refl (start .millikelvin) (start .pascals) refl (omega (arith, is-coldest (c .before)))
 
 returns-3 : tie.Need-returns-3
 returns-3 c =
     let known = is-coldest (c .before .before) in
-    wrong-pressure (c .before .before .before .before .args .fluid) refl _ _ refl (omega arith) (omega arith) (inl (omega arith))
+    too-low (c .before .before .before .before .args .fluid) refl _ _ (omega arith) (omega arith) refl (omega arith)
 
 returns-4 : tie.Need-returns-4
 returns-4 c =
     let known = is-coldest (c .before .before .before) in
-    wrong-pressure (c .before .before .before .before .before .args .fluid) refl _ _ refl (omega arith) (omega arith) (inr (omega arith))
+    too-high (c .before .before .before .before .before .args .fluid) refl _ _ (omega arith) (omega arith) refl (omega arith)
 
 mul-t : tie.Need-mul-t
 mul-t c = omega arith
