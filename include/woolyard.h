@@ -53,7 +53,7 @@ extern "C" {
 #define WOOLYARD_SHEET_MOST_BYTES 65536
 
 /* The reply to a state: its five figures, which are zeros where it is refused.
- * Answers 0, 1, 21, 22, 31 or 32; the first of these that applies is given, and 0 where none does. */
+ * Answers 0, 1, 21, 22, 31 or 32; the first refusal in this order that applies is given. */
 uint64_t woolyard_state(uint64_t fluid, uint64_t millikelvin, uint64_t pascals, uint64_t figures[5]);
 
 /* The same with a book of starting points, 64 numbers of 32 bits, holding anything at all. An answered call writes the gas root into its

@@ -1,6 +1,6 @@
--- Document 01, "Points worked through": the starred points, in its order, with the 21 and 31 of document 02's C-12. What a row says is in Rows.antt; that every row is right is
--- `starred-points`, in proofs/Theorems.antt. Where the paper names no pressure a row is for all of them, and where it names no slot for
--- every slot that leads to the same reply, which for an answer is every one up to 63.
+-- Document 01, "Points worked through", with the finer numbers of document 02's C-12: the starred points, in its order. What a row says is in
+-- Rows.antt; that every row is right is `starred-points`, in proofs/Theorems.antt. Where the paper names no pressure a row is for all of them,
+-- and where it names no slot for every slot that leads to the same reply, which for an answer is every one up to 63.
 use mathlib.Core.List.{List, [], _∷_}
 use lib.IntN.{pos, negℤ}
 use Rattle.fluid.specs.declared.choice.Fluid.the-variants.{Hydrogen, Oxygen}
