@@ -67,7 +67,7 @@ uint64_t peer_state(uint64_t fluid, uint64_t millikelvin, uint64_t pascals, doub
     struct roots root = roots(0.42748 * p / (t * t * sqrt(t)), 0.08664 * p / t);
 
     /* At compressibility 1, from millikelvin to grams. */
-    double ideal_density = molar_mass * (1e6 / 8314) * pressure / temperature;
+    double ideal_density = molar_mass * (1e6 / 8314.462618) * pressure / temperature;
     figures[WOOLYARD_KIND] = root.gas == root.dense ? WOOLYARD_KIND_ONE : WOOLYARD_KIND_SPLIT;
     figures[WOOLYARD_GAS_ROOT] = root.gas;
     figures[WOOLYARD_DENSE_ROOT] = root.dense;

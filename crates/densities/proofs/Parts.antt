@@ -1,15 +1,15 @@
--- The parts of a density: over half of the gas constant, the product above the bar fits in 64 bits, and what is left below the bar is not 0.
+-- The parts of a density: what stands above the bar over the gas constant, which fits in 64 bits, and what is left below the bar, which is not 0.
 -- Assumes nothing.
 use mathlib.Core.Path.{_≡_}
-use Prim.Native.Nat.{ℕ, _*_, _/_, _≤_, _<_}
-use native.Mathlib.Nat.{mul-le-mul, mul-pos, mul-comm, div-div-eq-div-mul}
+use Prim.Native.Nat.{ℕ, _+_, _*_, _/_, _%_, _≤_, _<_}
+use native.Mathlib.Nat.{le-refl, le-of-lt, mod-lt, mul-le-mul, mul-le-mul-right, mul-pos, mul-assoc, div-div-eq-div-mul}
 use native.Mathlib.Omega.{arith}
 use Rattle.fluid.specs.declared.choice.Fluid.{Fluid}
 use Rattle.fluid.specs.declared.choice.Fluid.the-variants.{Hydrogen, Oxygen}
-use Rattle.fluid.specs.Figures.{hottest, highest, densityFactor}
-use Rattle.densities.specs.Inside.{PartsFit}
+use Rattle.fluid.specs.Figures.{hottest, highest}
+use Rattle.densities.specs.Densities.{gasConstant, densityFactor}
 use Rattle.densities.specs.Promise.{largestRoot, Weighable}
-use Rattle.numbers.proofs.Quotients.{quotient-grows}
+use Rattle.numbers.proofs.Quotients.{quotient-grows, in-parts}
 
 abbrev pub largestFactor : ℕ
 largestFactor = densityFactor Oxygen
@@ -18,10 +18,20 @@ pub factor-fits : (fluid : Fluid) → densityFactor fluid ≤ largestFactor
 factor-fits Hydrogen = omega arith
 factor-fits Oxygen = omega arith
 
-pub parts-fit : (factor pascals : ℕ) → factor ≤ largestFactor → pascals ≤ highest → PartsFit pascals factor 4157
-parts-fit factor pascals fits few =
-    let quotient : pascals * factor / 4157 ≤ highest * largestFactor / 4157 = quotient-grows {y = highest * largestFactor} {d = 4157} (omega arith) (omega arith) (mul-le-mul few fits) in
-    record { some-divisor = omega arith; quotient-fits = omega (arith, quotient); carried-fits = omega arith }
+-- The factor's quotient and remainder over the gas constant, each times the pressure: what is carried on, and that the parts make the whole.
+pub record Parts (whole left pascals quotient : ℕ) : Type 0 where
+  pub carried : left * pascals ≤ gasConstant * pascals
+  pub sum : whole * pascals + left * pascals / gasConstant ≡ quotient
+  pub fits : quotient ≤ largestFactor * highest / gasConstant
+
+pub parts : (fluid : Fluid) (pascals : ℕ) → pascals ≤ highest → Parts (densityFactor fluid / gasConstant) (densityFactor fluid % gasConstant) pascals (densityFactor fluid * pascals / gasConstant)
+parts fluid pascals few =
+    let some : 0 < gasConstant = omega arith in
+    record {
+      carried = mul-le-mul-right pascals (le-of-lt (mod-lt (densityFactor fluid) some));
+      sum = in-parts (densityFactor fluid) pascals gasConstant some;
+      fits = quotient-grows some (le-refl gasConstant) (mul-le-mul (factor-fits fluid) few);
+    }
 
 -- what is left below the bar
 pub record Left (root millikelvin : ℕ) : Type 0 where
@@ -32,7 +42,6 @@ pub left : {millikelvin pascals root : ℕ} → Weighable millikelvin pascals ro
 left w = record { some = mul-pos (w .some-root) (w .some-temperature); fits = mul-le-mul (w .root-fits) (w .temperature-fits) }
 
 -- one rounding down after the other is one
-pub one-rounding : (factor millikelvin pascals root : ℕ) → pascals * factor / 4157 / (root * millikelvin) ≡ factor * pascals / (4157 * root * millikelvin)
-one-rounding factor millikelvin pascals root =
-    let below : 4157 * (root * millikelvin) ≡ 4157 * root * millikelvin = omega arith in
-    rw (mul-comm factor pascals, ← below) (div-div-eq-div-mul (pascals * factor) 4157 (root * millikelvin))
+pub one-rounding : (above constant root millikelvin : ℕ) → above / constant / (root * millikelvin) ≡ above / (constant * root * millikelvin)
+one-rounding above constant root millikelvin =
+    rw (mul-assoc constant root millikelvin) (div-div-eq-div-mul above constant (root * millikelvin))

@@ -1,8 +1,17 @@
--- Document 01, "Densities": one division, one rounding down, in grams per cubic metre, with 4157 for half of the gas constant 8314.
+-- Document 01, "Densities", with the gas constant of document 02's C-16: P x M x N x 1,000,000 over the gas constant x z x T, one division, one
+-- rounding down, in grams per cubic metre. Above the bar a million is of the millikelvin and of the gram, a thousand each.
 use Prim.Native.Nat.{ℕ, _*_, _/_}
 use Rattle.fluid.specs.declared.choice.Fluid.{Fluid}
-use Rattle.fluid.specs.Figures.{densityFactor}
+use Rattle.fluid.specs.Figures.{molarMass}
+
+-- 8314.462618 J/(kmol K), taken as exact, in millionths
+abbrev pub gasConstant : ℕ
+gasConstant = 8314462618
+
+-- What stands above the bar but for the pressure. The molar mass in hundred-thousandths is M x N; the second million is of the gas constant's unit.
+abbrev pub densityFactor : Fluid → ℕ
+densityFactor fluid = molarMass fluid * (1000000 * 1000000)
 
 unfoldable pub density : Fluid → (millikelvin pascals root : ℕ) → ℕ
 density fluid millikelvin pascals root =
-    densityFactor fluid * pascals / (4157 * root * millikelvin)
+    densityFactor fluid * pascals / (gasConstant * root * millikelvin)

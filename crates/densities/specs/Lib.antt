@@ -1,4 +1,3 @@
--- What a reader must believe of densities: the quotient, and what the public call promises. Inside says what the private function asks.
+-- What a reader must believe of densities: the quotient, and what the public call promises.
 pub mod Densities
 pub mod Promise
-pub mod Inside

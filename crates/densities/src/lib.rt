@@ -1,36 +1,64 @@
 // The density of a root (document 01, "Densities").
 ghost use mathlib.Core.Path.{_≡_};
-ghost use Prim.Native.Nat.{_*_, _/_};
+ghost use Prim.Native.Nat.{_*_, _/_, _%_, _≤_};
+ghost use Rattle.fluid.specs.Figures.{highest};
+ghost use Rattle.densities.specs.Densities.{gasConstant, densityFactor};
 ghost use Rattle.densities.specs.Promise.{Weighs};
-ghost use Rattle.densities.specs.Inside.{PartsFit};
 use fluid::Fluid;
 use fluid::HIGHEST_PASCALS;
 use fluid::HOTTEST_MILLIKELVIN;
-use fluid::density_factor;
+use fluid::molar_mass;
 
 // N + b for the largest b that the cubic takes.
 const LARGEST_ROOT: u64 = 1_100_000;
 
-// Half of the gas constant 8314.
-const HALF_GAS_CONSTANT: u64 = 4_157;
+// 8314.462618 J/(kmol K), in millionths.
+const GAS_CONSTANT: u64 = 8_314_462_618;
+
+// A million for the millikelvin's and the gram's thousands, and one for the gas constant's unit. The
+// molar mass's hundred-thousandths are the grid's.
+const FACTOR_OF_MOLAR_MASS: u64 = 1_000_000_000_000;
 
 pub enum Density {
     GramsPerCubicMetre(u64),
     OutOfBounds,
 }
 
-// The exact quotient of x times c by m, rounded down once, where the product itself would pass 64 bits:
-// what x leaves over m is carried on.
-fn quotient_in_parts(x: u64, c: u64, m: u64) -> u64
-    requires { ⌜ PartsFit x c m ⌝ }
-    ensures { λ r. ⌜ r ≡ x * c / m ⌝ }
+// What stands above the bar but for the pressure.
+fn factor(fluid: Fluid) -> u64
+    ensures { λ r. ⌜ r ≡ densityFactor fluid ⌝ }
 {
-    x / m * c + x % m * c / m
+    molar_mass(fluid) * FACTOR_OF_MOLAR_MASS
+}
+
+// The factor over the gas constant, rounded down, and what is left of it. Each is a function of its own,
+// for then the compiler works it out beforehand for each fluid.
+fn factor_quotient(fluid: Fluid) -> u64
+    ensures { λ r. ⌜ r ≡ densityFactor fluid / gasConstant ⌝ }
+{
+    factor(fluid) / GAS_CONSTANT
+}
+
+fn factor_remainder(fluid: Fluid) -> u64
+    ensures { λ r. ⌜ r ≡ densityFactor fluid % gasConstant ⌝ }
+{
+    factor(fluid) % GAS_CONSTANT
+}
+
+// All that stands above the bar over the gas constant, rounded down once. The product would pass 64 bits,
+// so it is worked out in parts: what is left of the factor is carried on.
+fn over_gas_constant(fluid: Fluid, pascals: u64) -> u64
+    requires { ⌜ pascals ≤ highest ⌝ }
+    ensures { λ r. ⌜ r ≡ densityFactor fluid * pascals / gasConstant ⌝ }
+{
+    let whole = factor_quotient(fluid);
+    let left = factor_remainder(fluid);
+    whole * pascals + left * pascals / GAS_CONSTANT
 }
 
 // The density of a root at a state, or that 64 bits do not hold its parts, or that it would divide by 0.
-// To divide by one number and then by another rounds down as to divide by their product does. So half the
-// gas constant goes first: what is left fits, and the division by a number that is known costs little.
+// To divide by one number and then by another rounds down as to divide by their product does. So the gas
+// constant goes first: what is left fits.
 pub fn density_of(fluid: Fluid, millikelvin: u64, pascals: u64, root: u64) -> Density
     ensures { λ r. ⌜ Weighs fluid millikelvin pascals root r ⌝ }
 {
@@ -49,7 +77,6 @@ pub fn density_of(fluid: Fluid, millikelvin: u64, pascals: u64, root: u64) -> De
     if LARGEST_ROOT < root {
         return Density::OutOfBounds;
     }
-    let over_gas_constant = quotient_in_parts(pascals, density_factor(fluid), HALF_GAS_CONSTANT);
-    let grams = over_gas_constant / (root * millikelvin);
+    let grams = over_gas_constant(fluid, pascals) / (root * millikelvin);
     Density::GramsPerCubicMetre(grams)
 }

@@ -1,5 +1,5 @@
--- What is proved of the definitions of `specs/`, beside what each call promises: the bounds of a and b over every accepted state, that a density's
--- factor is the molar mass over the gas constant, and that each promise fixes its answer. Assumes nothing.
+-- What is proved of the definitions of `specs/`, beside what each call promises: the bounds of a and b over every accepted state, and that each
+-- promise fixes its answer. Assumes nothing.
 use mathlib.Core.Path.{_≡_, refl, sym, ap, ap₂, _∙_}
 use Prim.Native.Nat.{ℕ, _*_, _/_, _≤_, _<_}
 use native.Mathlib.Omega.{arith}
@@ -10,7 +10,7 @@ use Rattle.fluid.specs.declared.choice.Numbered.the-variants as Numbered
 use Rattle.fluid.specs.declared.coefficients.Reduced.{Reduced}
 use Rattle.fluid.specs.declared.coefficients.Reduction.{Reduction}
 use Rattle.fluid.specs.declared.coefficients.Reduction.the-variants as Reduction
-use Rattle.fluid.specs.Figures.{molarMass, criticalMillikelvin, densityFactor, Accepted}
+use Rattle.fluid.specs.Figures.{molarMass, criticalMillikelvin, Accepted}
 use Rattle.squares.proofs.Theorems.{square-root-determined, square-root-exists}
 use Rattle.fluid.specs.Reduced.{Reduces}
 use Rattle.fluid.specs.Checks.{fluidChecks, stateChecks}
@@ -20,14 +20,9 @@ use Rattle.refusals.proofs.Theorems.{gives-once, refusalOf, refusal-of-number}
 use Rattle.fluid.proofs.Fluids.{number-determines-fluid}
 use Rattle.fluid.proofs.Ranges.{Bounds, spanned, bounds}
 
--- 8314, the gas constant, is twice 4157
-pub factor-is-molar-mass : (fluid : Fluid) → 2 * densityFactor fluid ≡ molarMass fluid * 1000000
-factor-is-molar-mass Hydrogen = refl
-factor-is-molar-mass Oxygen = refl
-
--- two answers that keep what `density_factor` promises are equal
-pub factor-determined : (fluid : Fluid) {r s : ℕ} → r ≡ densityFactor fluid → s ≡ densityFactor fluid → r ≡ s
-factor-determined fluid p q = p ∙ sym q
+-- two answers that keep what `molar_mass` promises are equal
+pub molar-mass-determined : (fluid : Fluid) {r s : ℕ} → r ≡ molarMass fluid → s ≡ molarMass fluid → r ≡ s
+molar-mass-determined fluid p q = p ∙ sym q
 
 pub some-temperature : {fluid : Fluid} {millikelvin pascals : ℕ} → Accepted fluid millikelvin pascals → 0 < millikelvin
 some-temperature {fluid = Hydrogen} accepted = omega arith

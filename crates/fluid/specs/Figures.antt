@@ -27,11 +27,6 @@ abbrev pub criticalPascals : Fluid → (millikelvin : ℕ) → ℕ
 criticalPascals Hydrogen millikelvin = lowered 2046765 4420000000 millikelvin
 criticalPascals Oxygen millikelvin = 5042000
 
--- what a density has above the fraction bar, but for the pressure
-abbrev pub densityFactor : Fluid → ℕ
-densityFactor Hydrogen = 100797 * 1000000
-densityFactor Oxygen = 159994 * 10000000
-
 -- the ranges, their ends included
 abbrev pub coldest : Fluid → ℕ
 coldest Hydrogen = 14000

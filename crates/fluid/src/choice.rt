@@ -2,7 +2,7 @@
 // case in this file.
 ghost use mathlib.Core.Path.{_≡_};
 ghost use Prim.Native.Nat.{_≤_};
-ghost use Rattle.fluid.specs.Figures.{hottest, densityFactor};
+ghost use Rattle.fluid.specs.Figures.{molarMass, hottest};
 ghost use Rattle.fluid.specs.Inside.{figuresOf};
 ghost use Rattle.fluid.specs.Promise.{numbered, Numbers};
 use crate::hydrogen::Hydrogen;
@@ -49,12 +49,12 @@ pub(crate) fn figures_at(fluid: Fluid, millikelvin: u64) -> Figures
     }
 }
 
-// What a density has above the fraction bar, but for the pressure.
-pub fn density_factor(fluid: Fluid) -> u64
-    ensures { λ r. ⌜ r ≡ densityFactor fluid ⌝ }
+// In hundred-thousandths of a kilogram a kilomole.
+pub fn molar_mass(fluid: Fluid) -> u64
+    ensures { λ r. ⌜ r ≡ molarMass fluid ⌝ }
 {
     match fluid {
-        Fluid::Hydrogen => Hydrogen::DENSITY_FACTOR,
-        Fluid::Oxygen => Oxygen::DENSITY_FACTOR,
+        Fluid::Hydrogen => Hydrogen::MOLAR_MASS,
+        Fluid::Oxygen => Oxygen::MOLAR_MASS,
     }
 }

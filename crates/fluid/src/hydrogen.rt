@@ -26,11 +26,6 @@ impl Hydrogen {
 
     pub const PASCALS_SHIFT: u64 = 4_420_000_000;
 
-    // 100797 x 1,000,000: half the molar mass, as 4157 is half the gas constant 8314, times the grid's
-    // 100,000 and the millikelvin's and the gram's thousands, over the molar mass's unit. The half is
-    // taken of the million, so that no digit of the molar mass is lost.
-    pub const DENSITY_FACTOR: u64 = Self::MOLAR_MASS * 500_000;
-
     // What comes to `hot` in hot gas, at a temperature.
     fn lowered(hot: u64, shift: u64, millikelvin: u64) -> u64
         requires { ⌜ LoweredFits hot shift millikelvin ⌝ }

@@ -7,7 +7,7 @@ pub mod oxygen;
 
 pub use choice::Fluid;
 pub use choice::Numbered;
-pub use choice::density_factor;
+pub use choice::molar_mass;
 pub use choice::of_number;
 pub use coefficients::HIGHEST_PASCALS;
 pub use coefficients::HOTTEST_MILLIKELVIN;

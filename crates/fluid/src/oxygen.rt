@@ -17,9 +17,6 @@ impl Oxygen {
 
     pub const CRITICAL_PASCALS: u64 = 5_042_000;
 
-    // 159994 x 10,000,000, made as hydrogen's is.
-    pub const DENSITY_FACTOR: u64 = Self::MOLAR_MASS * 500_000;
-
     pub(crate) fn figures() -> Figures
         ensures { λ r. ⌜ ((millikelvin : ℕ) → r ≡ figuresOf Fluid.Oxygen millikelvin) ⌝ }
     {

@@ -54,7 +54,7 @@ fn print_state(fluid: u64, millikelvin: u64, pascals: u64, slot: u64, book: &mut
 
 // Every pair of the two tables, for one fluid and then the other in the same slot: where both are
 // answered, each finds the other's root there. Answers how many states it asked, as `print_sides`,
-// `print_refusals` and `print_walk` do.
+// `print_refusals`, `print_densities` and `print_walk` do.
 fn print_pairs(book: &mut [u32]) -> u64
     ensures { λ r. ⌜ r ≡ 2 * 58 * 42 ⌝ }
 {
@@ -89,6 +89,18 @@ fn print_refusals(book: &mut [u32]) -> u64
     print_state(LARGEST, LARGEST, LARGEST, LARGEST, book);
     print_state(1, 300_000, 1_000_000, SLOTS, book);
     print_state(0, 300_000, 1_000_000, LARGEST, book);
+    4
+}
+
+// Densities that reach their last gram only by what the molar mass leaves over the gas constant: for each
+// fluid a state with one root and one with two.
+fn print_densities(book: &mut [u32]) -> u64
+    ensures { λ r. ⌜ r ≡ 4 ⌝ }
+{
+    print_state(0, 24_073, 15_549_695, 0, book);
+    print_state(0, 25_329, 397_317, 1, book);
+    print_state(1, 121_784, 3_611_541, 2, book);
+    print_state(1, 107_132, 37_618, 3, book);
     4
 }
 
@@ -152,8 +164,9 @@ fn main() {
     let pairs = print_pairs(&mut book);
     let sides = print_sides(&mut book);
     let refusals = print_refusals(&mut book);
+    let densities = print_densities(&mut book);
     let walk = print_walk(&mut book);
     print_book(&book);
-    io::print_decimal(STDOUT_FILENO, pairs + sides + refusals + walk);
+    io::print_decimal(STDOUT_FILENO, pairs + sides + refusals + densities + walk);
     io::write_all(STDOUT_FILENO, b" states\n");
 }

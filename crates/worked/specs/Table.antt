@@ -1,5 +1,5 @@
--- Document 01, "Points worked through", with the finer numbers of document 02's C-12: the starred points, in its order. What a row says is in
--- Rows.antt; that every row is right is `starred-points`, in proofs/Theorems.antt. Where the paper names no pressure a row is for all of them,
+-- Document 01, "Points worked through", with the finer numbers and the gas constant of document 02 (C-12, C-16): the starred points, in its
+-- order. What a row says is in Rows.antt; that every row is right is `starred-points`, in proofs/Theorems.antt. Where the paper names no pressure a row is for all of them,
 -- and where it names no slot for every slot that leads to the same reply, which for an answer is every one up to 63.
 use mathlib.Core.List.{List, [], _∷_}
 use lib.IntN.{pos, negℤ}
@@ -9,8 +9,8 @@ use Rattle.worked.specs.Rows.{Row, answered, value, refused, only, up-to
 
 unfoldable pub table : List Row
 table =
-    answered Oxygen 300000 1000000 154576 5042000 (record { t = 19407; p = 198333; s = 13930; a = 1616; b = 885 }) (up-to 63) (One 99286 12921)
-    ∷ answered Oxygen 120000 500000 154576 5042000 (record { t = 7763; p = 99166; s = 8810; a = 7984; b = 1106 }) (up-to 63) (Split 92696 1699 17300 943884)
+    answered Oxygen 300000 1000000 154576 5042000 (record { t = 19407; p = 198333; s = 13930; a = 1616; b = 885 }) (up-to 63) (One 99286 12920)
+    ∷ answered Oxygen 120000 500000 154576 5042000 (record { t = 7763; p = 99166; s = 8810; a = 7984; b = 1106 }) (up-to 63) (Split 92696 1699 17299 943832)
     ∷ value 7984 1106 1699 (negℤ (pos 292242865))
     ∷ value 7984 1106 1700 (pos 63098800)
     ∷ value 7984 1106 92696 (negℤ (pos 84314720))
@@ -18,8 +18,8 @@ table =
     ∷ answered Hydrogen 1000000 10000 43133 2002851 (record { t = 231841; p = 4992; s = 48149; a = 0; b = 1 }) (up-to 63) (One 100001 2)
     ∷ refused 1 55999 all all 21
     ∷ refused 1 56000 (only 9999) all 31
-    ∷ answered Oxygen 56000 10000 154576 5042000 (record { t = 3622; p = 1983; s = 6018; a = 1073; b = 47 }) (up-to 63) (Split 98963 51 694 1347613)
-    ∷ answered Oxygen 56000 50000000 154576 5042000 (record { t = 3622; p = 9916699; s = 6018; a = 5369500; b = 237212 }) (up-to 63) (One 256275 1340909)
+    ∷ answered Oxygen 56000 10000 154576 5042000 (record { t = 3622; p = 1983; s = 6018; a = 1073; b = 47 }) (up-to 63) (Split 98963 51 694 1347538)
+    ∷ answered Oxygen 56000 50000000 154576 5042000 (record { t = 3622; p = 9916699; s = 6018; a = 5369500; b = 237212 }) (up-to 63) (One 256275 1340834)
     ∷ refused 2 0 all all 1
     ∷ refused 1 300000 (only 1000000) (only 64) 4
     ∷ []

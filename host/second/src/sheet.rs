@@ -222,8 +222,8 @@ mod tests {
     #[test]
     fn example() {
         let expected = "ONE 100474 804
-ONE 99286 12921
-SPLIT 92696 17300
+ONE 99286 12920
+SPLIT 92696 17299
 NO 21
 ";
         assert_eq!(print(EXAMPLE), expected);

@@ -1,6 +1,6 @@
-//! Document 01, "Replies" to "The book of starting points", with the finer refusals of document 02's
-//! C-12: the reply to a state, as the papers write it. Every product has 128 bits, so that none needs a
-//! thought.
+//! Document 01, "Replies" to "The book of starting points", with the finer refusals and the gas constant
+//! of document 02 (C-12 and C-16): the reply to a state, as the papers write it. Every product has 128
+//! bits, so that none needs a thought.
 
 use crate::cubic::crossings;
 
@@ -17,6 +17,12 @@ pub const COLDEST: [u64; 2] = [14_000, 56_000];
 pub const HOTTEST: u64 = 1_000_000;
 pub const LOWEST_PRESSURE: u64 = 10_000;
 pub const HIGHEST_PRESSURE: u64 = 50_000_000;
+
+/// Of each fluid, in hundred-thousandths.
+const MOLAR_MASS: [u128; 2] = [201_594, 3_199_880];
+
+/// In millionths of a J/(kmol K).
+const GAS_CONSTANT: u128 = 8_314_462_618;
 
 /// How many numbers a book has.
 pub const BOOK: usize = 64;
@@ -70,7 +76,7 @@ pub fn critical(fluid: u64, millikelvin: u64) -> Critical {
             pascals: 5_042_000,
         };
     }
-    let m = 201_594 * u128::from(millikelvin);
+    let m = MOLAR_MASS[HYDROGEN as usize] * u128::from(millikelvin);
     Critical {
         millikelvin: narrow(43_600 * m / (m + 2_180_000_000)),
         pascals: narrow(2_046_765 * m / (m + 4_420_000_000)),
@@ -102,15 +108,12 @@ fn largest_with_square_up_to(limit: u128) -> u128 {
     s.into()
 }
 
-/// Grams per cubic metre at this root.
+/// Grams per cubic metre at this root: P x M x N x 1,000,000 over the gas constant x z x T, rounded down.
+/// M x N is the molar mass in hundred-thousandths; the gas constant's millionths bring a million more.
 pub fn density(fluid: u64, millikelvin: u64, pascals: u64, root: u64) -> u64 {
     let [millikelvin, pascals, root] = [millikelvin, pascals, root].map(u128::from);
-    let top = if fluid == OXYGEN {
-        159_994 * 10_000_000 * pascals
-    } else {
-        100_797 * 1_000_000 * pascals
-    };
-    narrow(top / (4157 * root * millikelvin))
+    let top = pascals * MOLAR_MASS[fluid as usize] * 1_000_000 * 1_000_000;
+    narrow(top / (GAS_CONSTANT * root * millikelvin))
 }
 
 /// The reply to a call without a book.
@@ -184,6 +187,7 @@ fn narrow(wide: u128) -> u64 {
 mod tests {
     use super::*;
     use crate::cubic::{g, N};
+    use crate::random::Random;
 
     fn one(root: u64, density: u64) -> Reply {
         Reply {
@@ -215,7 +219,7 @@ mod tests {
     fn oxygen_at_300_kelvin() {
         let expected = [19_407, 198_333, 13_930, 1616, 885];
         assert_eq!(coefficients(OXYGEN, 300_000, 1_000_000), expected);
-        assert_eq!(reply(OXYGEN, 300_000, 1_000_000), one(99_286, 12_921));
+        assert_eq!(reply(OXYGEN, 300_000, 1_000_000), one(99_286, 12_920));
     }
 
     #[test]
@@ -230,8 +234,8 @@ mod tests {
             kind: SPLIT,
             gas_root: 92_696,
             dense_root: 1699,
-            gas_density: 17_300,
-            dense_density: 943_884,
+            gas_density: 17_299,
+            dense_density: 943_832,
         };
         assert_eq!(reply(OXYGEN, 120_000, 500_000), expected);
     }
@@ -253,6 +257,55 @@ mod tests {
         let [.., a, b] = coefficients(HYDROGEN, 1_000_000, 10_000);
         assert_eq!((a, b), (0, 1));
         assert_eq!(reply(HYDROGEN, 1_000_000, 10_000), one(100_001, 2));
+    }
+
+    /// Document 02, C-16: the SI's value to ten figures. The SI fixes Avogadro's number, 6.02214076e23, and
+    /// Boltzmann's constant, 1.380649e-23, and the gas constant is their product.
+    #[test]
+    fn gas_constant_of_the_si() {
+        let hundred_thousandths_of_millionths = 602_214_076 * 1_380_649;
+        assert_eq!(
+            (hundred_thousandths_of_millionths + 50_000) / 100_000,
+            GAS_CONSTANT
+        );
+    }
+
+    /// The molar mass in the units above the bar is no whole number of gas constants. At these states the
+    /// density of the dense root is reached only by what is left of it.
+    #[test]
+    fn densities_barely_reached() {
+        let states = [
+            (HYDROGEN, 24_073, 15_549_695, 79_820),
+            (HYDROGEN, 25_329, 397_317, 60_688),
+            (OXYGEN, 121_784, 3_611_541, 952_596),
+            (OXYGEN, 107_132, 37_618, 1_055_762),
+        ];
+        for (fluid, millikelvin, pascals, grams) in states {
+            let Reply {
+                dense_root,
+                dense_density,
+                ..
+            } = reply(fluid, millikelvin, pascals);
+            assert_eq!(dense_density, grams);
+            let whole = MOLAR_MASS[fluid as usize] * 1_000_000_000_000 / GAS_CONSTANT;
+            let without = narrow(whole) * pascals / (dense_root * millikelvin);
+            assert_eq!(without, grams - 1);
+        }
+    }
+
+    /// Document 02, C-16, beside document 01's own formulas.
+    #[test]
+    fn never_above_the_density_with_8314() {
+        let before = [100_797 * 1_000_000, 159_994 * 10_000_000];
+        let mut random = Random(16);
+        for _ in 0..100_000 {
+            let fluid = random.number() % 2;
+            let [millikelvin, pascals, root] =
+                [HOTTEST, HIGHEST_PRESSURE, 1_100_000].map(|most| random.magnitude(most).max(1));
+            let [t, p, z] = [millikelvin, pascals, root].map(u128::from);
+            let with_8314 = narrow(before[fluid as usize] * p / (4157 * z * t));
+            assert!(density(fluid, millikelvin, pascals, root) <= with_8314);
+        }
     }
 
     #[test]
@@ -324,7 +377,7 @@ mod tests {
         let mut book = [7; BOOK];
         assert_eq!(call(64, &mut book), refused(4));
         assert_eq!(call(u64::MAX, &mut book), refused(4));
-        assert_eq!(call(63, &mut book), one(99_286, 12_921));
+        assert_eq!(call(63, &mut book), one(99_286, 12_920));
         assert_eq!((&book[..63], book[63]), (&[7; 63][..], 99_286));
         assert_eq!(call(0, &mut [7; 63]), refused(4));
         assert_eq!(call(0, &mut [7; 65]), refused(4));

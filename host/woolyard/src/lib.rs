@@ -11,8 +11,8 @@
 //!
 //! let answer = woolyard::state(Fluid::Oxygen, 120_000, 500_000)?;
 //! assert_eq!(answer.kind, Kind::Split);
-//! assert_eq!((answer.gas_root, answer.gas_density), (92_696, 17_300));
-//! assert_eq!((answer.dense_root, answer.dense_density), (1699, 943_884));
+//! assert_eq!((answer.gas_root, answer.gas_density), (92_696, 17_299));
+//! assert_eq!((answer.dense_root, answer.dense_density), (1699, 943_832));
 //!
 //! let refused = woolyard::state(Fluid::Oxygen, 55_999, 500_000);
 //! assert_eq!(refused, Err(Refusal::TemperatureTooLow));

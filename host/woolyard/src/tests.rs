@@ -23,13 +23,13 @@ fn one(root: u64, density: u64) -> Answer {
 #[test]
 fn states() {
     let oxygen = |millikelvin, pascals| state(Fluid::Oxygen, millikelvin, pascals);
-    assert_eq!(oxygen(300_000, 1_000_000), Ok(one(99_286, 12_921)));
+    assert_eq!(oxygen(300_000, 1_000_000), Ok(one(99_286, 12_920)));
     let split = Answer {
         kind: Kind::Split,
         gas_root: 92_696,
         dense_root: 1699,
-        gas_density: 17_300,
-        dense_density: 943_884,
+        gas_density: 17_299,
+        dense_density: 943_832,
     };
     assert_eq!(oxygen(120_000, 500_000), Ok(split));
     let hydrogen = |millikelvin, pascals| state(Fluid::Parahydrogen, millikelvin, pascals);
@@ -66,7 +66,7 @@ fn slots_of_the_book() {
     assert_eq!(call(0, &mut book[..63]), Err(Refusal::NoSuchSlot));
     assert_eq!(call(0, &mut []), Err(Refusal::NoSuchSlot));
     assert_eq!(book, [7; BOOK_LENGTH]);
-    assert_eq!(call(63, &mut book), Ok(one(99_286, 12_921)));
+    assert_eq!(call(63, &mut book), Ok(one(99_286, 12_920)));
     assert_eq!((&book[..63], book[63]), (&[7; 63][..], 99_286));
 }
 
