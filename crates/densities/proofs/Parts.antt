@@ -2,26 +2,26 @@
 -- Assumes nothing.
 use mathlib.Core.Path.{_≡_}
 use Prim.Native.Nat.{ℕ, _+_, _*_, _/_, _%_, _≤_, _<_}
-use native.Mathlib.Nat.{le-refl, le-of-lt, mod-lt, mul-le-mul, mul-le-mul-right, mul-pos, mul-assoc, div-div-eq-div-mul}
+use native.Mathlib.Nat.{le-of-lt, mod-lt, mul-le-mul, mul-le-mul-right, mul-pos, mul-assoc, div-div-eq-div-mul}
 use native.Mathlib.Omega.{arith}
 use Rattle.fluid.specs.declared.choice.Fluid.{Fluid}
-use Rattle.fluid.specs.declared.choice.Fluid.the-variants.{Hydrogen, Oxygen}
 use Rattle.fluid.specs.Figures.{hottest, highest}
 use Rattle.densities.specs.Densities.{gasConstant, densityFactor}
 use Rattle.densities.specs.Promise.{largestRoot, Weighable}
-use Rattle.numbers.proofs.Quotients.{quotient-grows, in-parts}
+use Rattle.fluid.proofs.Theorems.{molar-mass-at-most}
+use Rattle.numbers.proofs.Quotients.{quotient-rises, in-parts}
 
+-- above every fluid's
 abbrev pub largestFactor : ℕ
-largestFactor = densityFactor Oxygen
+largestFactor = 4000000 * (1000000 * 1000000)
 
 pub factor-fits : (fluid : Fluid) → densityFactor fluid ≤ largestFactor
-factor-fits Hydrogen = omega arith
-factor-fits Oxygen = omega arith
+factor-fits fluid = omega (arith, molar-mass-at-most fluid)
 
 -- The factor's quotient and remainder over the gas constant, each times the pressure: what is carried on, and that the parts make the whole.
-pub record Parts (whole left pascals quotient : ℕ) : Type 0 where
-  pub carried : left * pascals ≤ gasConstant * pascals
-  pub sum : whole * pascals + left * pascals / gasConstant ≡ quotient
+pub record Parts (whole rest pascals quotient : ℕ) : Type 0 where
+  pub carried : rest * pascals ≤ gasConstant * pascals
+  pub sum : whole * pascals + rest * pascals / gasConstant ≡ quotient
   pub fits : quotient ≤ largestFactor * highest / gasConstant
 
 pub parts : (fluid : Fluid) (pascals : ℕ) → pascals ≤ highest → Parts (densityFactor fluid / gasConstant) (densityFactor fluid % gasConstant) pascals (densityFactor fluid * pascals / gasConstant)
@@ -30,7 +30,7 @@ parts fluid pascals few =
     record {
       carried = mul-le-mul-right pascals (le-of-lt (mod-lt (densityFactor fluid) some));
       sum = in-parts (densityFactor fluid) pascals gasConstant some;
-      fits = quotient-grows some (le-refl gasConstant) (mul-le-mul (factor-fits fluid) few);
+      fits = quotient-rises gasConstant (mul-le-mul (factor-fits fluid) few);
     }
 
 -- what is left below the bar

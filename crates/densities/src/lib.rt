@@ -31,8 +31,8 @@ fn factor(fluid: Fluid) -> u64
     molar_mass(fluid) * FACTOR_OF_MOLAR_MASS
 }
 
-// The factor over the gas constant, rounded down, and what is left of it. Each is a function of its own,
-// for then the compiler works it out beforehand for each fluid.
+// The factor over the gas constant, rounded down, and the rest. Each is a function of its own, for then the
+// compiler works it out beforehand for each fluid.
 fn factor_quotient(fluid: Fluid) -> u64
     ensures { λ r. ⌜ r ≡ densityFactor fluid / gasConstant ⌝ }
 {
@@ -46,14 +46,14 @@ fn factor_remainder(fluid: Fluid) -> u64
 }
 
 // All that stands above the bar over the gas constant, rounded down once. The product would pass 64 bits,
-// so it is worked out in parts: what is left of the factor is carried on.
+// so it is worked out in parts: the rest of the factor is carried on.
 fn over_gas_constant(fluid: Fluid, pascals: u64) -> u64
     requires { ⌜ pascals ≤ highest ⌝ }
     ensures { λ r. ⌜ r ≡ densityFactor fluid * pascals / gasConstant ⌝ }
 {
     let whole = factor_quotient(fluid);
-    let left = factor_remainder(fluid);
-    whole * pascals + left * pascals / GAS_CONSTANT
+    let rest = factor_remainder(fluid);
+    whole * pascals + rest * pascals / GAS_CONSTANT
 }
 
 // The density of a root at a state, or that 64 bits do not hold its parts, or that it would divide by 0.

@@ -1,5 +1,5 @@
--- What is proved of the definitions of `specs/`, beside what each call promises: the bounds of a and b over every accepted state, and that each
--- promise fixes its answer. Assumes nothing.
+-- What is proved of the definitions of `specs/`, beside what each call promises: the bounds of a and b over every accepted state and of
+-- the molar masses, and that each promise fixes its answer. Assumes nothing.
 use mathlib.Core.Path.{_≡_, refl, sym, ap, ap₂, _∙_}
 use Prim.Native.Nat.{ℕ, _*_, _/_, _≤_, _<_}
 use native.Mathlib.Omega.{arith}
@@ -19,6 +19,11 @@ use Rattle.refusals.specs.Checks.{Outcome, with-value, with-number}
 use Rattle.refusals.proofs.Theorems.{gives-once, refusalOf, refusal-of-number}
 use Rattle.fluid.proofs.Fluids.{number-determines-fluid}
 use Rattle.fluid.proofs.Ranges.{Bounds, spanned, bounds}
+
+-- a round bound, for whoever works with molar masses in 64 bits
+pub molar-mass-at-most : (fluid : Fluid) → molarMass fluid ≤ 4000000
+molar-mass-at-most Hydrogen = omega arith
+molar-mass-at-most Oxygen = omega arith
 
 -- two answers that keep what `molar_mass` promises are equal
 pub molar-mass-determined : (fluid : Fluid) {r s : ℕ} → r ≡ molarMass fluid → s ≡ molarMass fluid → r ≡ s

@@ -1,6 +1,5 @@
 -- `densities::density_of` meets its contract: one rounding down after the other is the one that the paper asks for (`Parts.antt`).
 -- Assumes nothing.
-use Prim.Native.Nat.{ℕ, _*_, _/_, _≤_}
 use native.Mathlib.Omega.{arith}
 use Rattle.densities.specs.Densities.{gasConstant, density}
 use Rattle.densities.specs.Promise.{Weighable}
