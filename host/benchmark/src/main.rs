@@ -1,8 +1,10 @@
 //! How long the proved library takes, beside the same job in doubles and the plain scan.
 //!
 //! Run from the repository's root by `host/benchmark/run`. It prints what it measured, writes the
-//! same to docs/BENCHMARK.md, and ends with status 1 where a bar is missed.
+//! same to docs/BENCHMARK.md, and ends with status 1 where a bar is missed. With words, it times the
+//! shared objects of these names beside each other and writes no file.
 
+mod beside;
 mod contenders;
 mod document;
 mod floors;
@@ -29,6 +31,11 @@ const WRITTEN: &str = "docs/BENCHMARK.md";
 fn main() -> ExitCode {
     let mut random = Random(0x5EED);
     let timed = states::spread(TIMED_STATES, &mut random);
+    let builds: Vec<String> = std::env::args().skip(1).collect();
+    if !builds.is_empty() {
+        beside::measure(&builds, &timed, &mut random);
+        return ExitCode::SUCCESS;
+    }
     let counted = states::spread(COUNTED_STATES, &mut random);
     let every = TIMED_STATES / SCANNED_STATES;
     let scanned: Vec<_> = timed.iter().step_by(every).copied().collect();

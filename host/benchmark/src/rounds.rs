@@ -36,7 +36,7 @@ pub fn interleaved<const CONTENDERS: usize>(
     passes.map(timing)
 }
 
-fn timing(mut passes: Vec<f64>) -> Timing {
+pub fn timing(mut passes: Vec<f64>) -> Timing {
     passes.sort_by(f64::total_cmp);
     Timing {
         median: passes[passes.len() / 2],
