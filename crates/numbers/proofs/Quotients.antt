@@ -13,7 +13,7 @@ pub quotient-grows : {x y c d : ℕ} → 0 < d → d ≤ c → x ≤ y → x / c
 quotient-grows {x} {y} {c} {d} some less more =
     quotient-from some (omega (arith, div-mul-le-self x c, mul-le-mul-left (x / c) less))
 
--- over the same number, though it were 0
+-- over the same number, be it 0
 pub quotient-rises : {x y : ℕ} (c : ℕ) → x ≤ y → x / c ≤ y / c
 quotient-rises {x} {y} c more =
     ⊎-elim (λ none. rw none (le-of-eq (div-zero x ∙ sym (div-zero y)))) (λ some. quotient-grows some (le-refl c) more) (eq-zero-or-pos c)
