@@ -6,7 +6,7 @@ use native.Mathlib.Omega.{arith}
 use Rattle.fluid.specs.declared.choice.Fluid.{Fluid}
 use Rattle.fluid.specs.declared.choice.Fluid.the-variants.{Hydrogen, Oxygen}
 use Rattle.fluid.specs.Figures.{molarMass}
-use Rattle.densities.specs.Densities.{gasConstant, density}
+use Rattle.densities.specs.Densities.{gasConstant, densityFactor, density}
 use Rattle.densities.proofs.Parts.{one-rounding}
 use Rattle.numbers.proofs.Quotients.{quotient-grows, quotient-rises}
 
@@ -31,15 +31,15 @@ module _ (millikelvin pascals root : ℕ) where
   oxygen-as-written = halved (159994 * 10000000) millikelvin pascals root
 
 -- over the gas constant alone, by whatever else it is divided then
-less-over-constant : (mass pascals : ℕ) → mass * 1000000000000 * pascals / gasConstant ≤ mass * 1000000 * pascals / 8314
-less-over-constant mass pascals =
-    let above : mass * 1000000000000 * pascals ≡ 1000000 * (mass * 1000000 * pascals) = omega arith in
-    let in-millionths = mul-div-mul-left {m = 1000000} (mass * 1000000 * pascals) 8314 (omega arith) in
+less-over-constant : (fluid : Fluid) (pascals : ℕ) → densityFactor fluid * pascals / gasConstant ≤ molarMass fluid * 1000000 * pascals / 8314
+less-over-constant fluid pascals =
+    let above : densityFactor fluid * pascals ≡ 1000000 * (molarMass fluid * 1000000 * pascals) = omega arith in
+    let in-millionths = mul-div-mul-left {m = 1000000} (molarMass fluid * 1000000 * pascals) 8314 (omega arith) in
     rw (above, ← in-millionths) (quotient-grows (omega arith) (omega arith) (le-refl _))
 
 pub never-above-before : (fluid : Fluid) (millikelvin pascals root : ℕ) → density fluid millikelvin pascals root ≤ densityBefore fluid millikelvin pascals root
 unfolding density densityBefore
 never-above-before fluid millikelvin pascals root =
-    let new = one-rounding (molarMass fluid * 1000000000000 * pascals) gasConstant root millikelvin in
+    let new = one-rounding (densityFactor fluid * pascals) gasConstant root millikelvin in
     let old = one-rounding (molarMass fluid * 1000000 * pascals) 8314 root millikelvin in
-    rw (← new, ← old) (quotient-rises (root * millikelvin) (less-over-constant (molarMass fluid) pascals))
+    rw (← new, ← old) (quotient-rises (root * millikelvin) (less-over-constant fluid pascals))

@@ -6,14 +6,14 @@ use native.Mathlib.Nat.{le-of-lt, mod-lt, mul-le-mul, mul-le-mul-right, mul-pos,
 use native.Mathlib.Omega.{arith}
 use Rattle.fluid.specs.declared.choice.Fluid.{Fluid}
 use Rattle.fluid.specs.Figures.{hottest, highest}
-use Rattle.densities.specs.Densities.{gasConstant, densityFactor}
+use Rattle.densities.specs.Densities.{gasConstant, factorOfMolarMass, densityFactor}
 use Rattle.densities.specs.Promise.{largestRoot, Weighable}
-use Rattle.fluid.proofs.Theorems.{molar-mass-at-most}
+use Rattle.fluid.proofs.Theorems.{heaviest, molar-mass-at-most}
 use Rattle.numbers.proofs.Quotients.{quotient-rises, in-parts}
 
 -- above every fluid's
 abbrev pub largestFactor : ℕ
-largestFactor = 4000000 * (1000000 * 1000000)
+largestFactor = heaviest * factorOfMolarMass
 
 pub factor-fits : (fluid : Fluid) → densityFactor fluid ≤ largestFactor
 factor-fits fluid = omega (arith, molar-mass-at-most fluid)

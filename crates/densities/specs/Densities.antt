@@ -1,5 +1,5 @@
 -- Document 01, "Densities", with the gas constant of document 02's C-16: P x M x N x 1,000,000 over the gas constant x z x T, one division, one
--- rounding down, in grams per cubic metre. Above the bar a million is of the millikelvin and of the gram, a thousand each.
+-- rounding down, in grams per cubic metre.
 use Prim.Native.Nat.{ℕ, _*_, _/_}
 use Rattle.fluid.specs.declared.choice.Fluid.{Fluid}
 use Rattle.fluid.specs.Figures.{molarMass}
@@ -8,9 +8,13 @@ use Rattle.fluid.specs.Figures.{molarMass}
 abbrev pub gasConstant : ℕ
 gasConstant = 8314462618
 
--- What stands above the bar but for the pressure. The molar mass in hundred-thousandths is M x N; the second million is of the gas constant's unit.
+-- the paper's million, a thousand each for millikelvin and grams, and one for the gas constant's millionths
+abbrev pub factorOfMolarMass : ℕ
+factorOfMolarMass = 1000000 * 1000000
+
+-- What stands above the bar but for the pressure. The molar mass in hundred-thousandths is M x N.
 abbrev pub densityFactor : Fluid → ℕ
-densityFactor fluid = molarMass fluid * (1000000 * 1000000)
+densityFactor fluid = molarMass fluid * factorOfMolarMass
 
 unfoldable pub density : Fluid → (millikelvin pascals root : ℕ) → ℕ
 density fluid millikelvin pascals root =

@@ -21,7 +21,10 @@ use Rattle.fluid.proofs.Fluids.{number-determines-fluid}
 use Rattle.fluid.proofs.Ranges.{Bounds, spanned, bounds}
 
 -- a round bound, for whoever works with molar masses in 64 bits
-pub molar-mass-at-most : (fluid : Fluid) → molarMass fluid ≤ 4000000
+abbrev pub heaviest : ℕ
+heaviest = 4000000
+
+pub molar-mass-at-most : (fluid : Fluid) → molarMass fluid ≤ heaviest
 molar-mass-at-most Hydrogen = omega arith
 molar-mass-at-most Oxygen = omega arith
 

@@ -2,6 +2,7 @@
 use mathlib.Core.Path.{ap}
 use Prim.Native.Nat.{ℕ, _*_}
 use native.Mathlib.Omega.{arith}
+use Rattle.densities.specs.Densities.{factorOfMolarMass}
 use Rattle.densities.proofs.Parts.{factor-fits}
 use Rattle.densities.proofs.factor.Statement.{statement}
 use Rattle.densities.proofs.factor.Tie as tie
@@ -13,7 +14,7 @@ mul-result : tie.Need-mul-result
 mul-result c = omega (arith, factor-fits (c .before .args .fluid))
 
 returns : tie.Need-returns
-returns c = ap (λ (mass : ℕ). mass * 1000000000000) (c .molar-mass .ensures)
+returns c = ap (λ (mass : ℕ). mass * factorOfMolarMass) (c .molar-mass .ensures)
 
 pub factor-spec : {M : Type 1} → statement M
 factor-spec = tie.close (tie.spec molar-mass-requires mul-result returns)
