@@ -1,16 +1,31 @@
 -- What the private functions ask and promise. Nothing public is stated by this file.
-use Prim.Native.Nat.{ℕ, _≤_, _<_}
+use mathlib.Core.Path.{_≡_}
+use Prim.Native.Nat.{ℕ, _+_, _*_, _/_, _^_, _≤_, _<_}
+use Rattle.squares.specs.SquareRoot.{SquareRoot}
 
--- the largest number of 32 bits
-abbrev pub largestSquare : ℕ
-largestSquare = 4294967295
+-- a number of 32 bits has so many pairs of digits, and its root is at most so large
+abbrev pub allPairs : ℕ
+allPairs = 5
 
--- a guess at a square root that a step may be taken from
-pub record Guess (guess : ℕ) : Type 0 where
-  pub some : 0 < guess
-  pub small : guess ≤ 1000000
+abbrev pub largestRoot : ℕ
+largestRoot = 65535
 
--- the guess that is made first is not so small that the step from it is large
-pub record FirstGuess (guess : ℕ) : Type 0 where
-  pub from : 4835 ≤ guess
-  pub to : guess ≤ 200000
+-- where so many pairs of n are left, root is the square root of the number that those taken make, and rest what that has more than its square
+pub record AfterPairs (n left root rest : ℕ) : Type 0 where
+  pub of-all : left ≤ allPairs
+  pub is-root : SquareRoot (n / 100 ^ left) root
+  pub is-rest : root * root + rest ≡ n / 100 ^ left
+
+-- by how much the square of 10 root + digit is larger than that of 10 root
+abbrev pub product : ℕ → ℕ → ℕ
+product root digit = (20 * root + digit) * digit
+
+-- what is left where one digit is to follow: too little for ten
+pub record ForOneDigit (root left : ℕ) : Type 0 where
+  pub root-to : root ≤ largestRoot
+  pub below-ten : left < product root 10
+
+-- the digit that comes next: the largest whose product is at most what is left
+pub record NextDigit (root left digit : ℕ) : Type 0 where
+  pub fits : product root digit ≤ left
+  pub largest : (k : ℕ) → product root k ≤ left → k ≤ digit
