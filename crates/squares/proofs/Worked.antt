@@ -1,4 +1,5 @@
--- The square root of 10000 x 7763, worked out as docs/SQUARE-ROOT.md has it: each line is what the pair before it leaves. Assumes nothing.
+-- The square root of 10000 x 7763, worked out as docs/SQUARE-ROOT.md has it: a theorem for each row of its table, from the one before by one
+-- pair. Assumes nothing.
 use mathlib.Core.Path.{refl}
 use Prim.Native.Nat.{ℕ, _*_}
 use native.Mathlib.Omega.{arith}
