@@ -28,26 +28,26 @@ before-pairs n few =
     let none : n / 100 ^ allPairs ≡ 0 = omega (arith, few) in
     record { of-all = omega arith; is-root = rw none (square-root (omega arith) (omega arith)); is-rest = omega (arith, none) }
 
-module _ (n left root rest : ℕ) (after : AfterPairs n (left + 1) root rest) where
+module _ (n pairs-left root rest : ℕ) (after : AfterPairs n (pairs-left + 1) root rest) where
   -- the next pair, brought down beside the rest
   abbrev brought : ℕ
-  brought = 100 * rest + n / 100 ^ left % 100
+  brought = 100 * rest + n / 100 ^ pairs-left % 100
 
-  shorter : n / 100 ^ left / 100 ≡ n / 100 ^ (left + 1)
-  shorter = rw (pow-add 100 left 1) (div-div-eq-div-mul n (100 ^ left) 100)
+  shorter : n / 100 ^ pairs-left / 100 ≡ n / 100 ^ (pairs-left + 1)
+  shorter = rw (pow-add 100 pairs-left 1) (div-div-eq-div-mul n (100 ^ pairs-left) 100)
 
-  taken : 100 * (root * root) + brought ≡ n / 100 ^ left
+  taken : 100 * (root * root) + brought ≡ n / 100 ^ pairs-left
   taken = omega (arith, shorter, after .is-rest)
 
   -- the rest is at most twice the root, or the root would not be the largest
   pub for-one-digit : n < (largestRoot + 1) * (largestRoot + 1) → ForOneDigit root brought
   for-one-digit small = record {
-    root-to = omega (arith, root-below root (largestRoot + 1) (omega (arith, after .is-root .square, div-le-self n (100 ^ (left + 1)))));
+    root-to = omega (arith, root-below root (largestRoot + 1) (omega (arith, after .is-root .square, div-le-self n (100 ^ (pairs-left + 1)))));
     below-ten = omega (arith, next-square (after .is-root), after .is-rest);
   }
 
   -- (10 r + d) (10 r + d) = 100 r r + (20 r + d) d
-  pub after-pair : {digit : ℕ} → NextDigit root brought digit → AfterPairs n left (10 * root + digit) (brought - product root digit)
+  pub after-pair : {digit : ℕ} → NextDigit root brought digit → AfterPairs n pairs-left (10 * root + digit) (brought - product root digit)
   after-pair {digit} next =
       let too-large : brought < product root (digit + 1) = lt-of-not-le (λ fits. omega (arith, next .largest (digit + 1) fits)) in
       record {
@@ -57,5 +57,5 @@ module _ (n left root rest : ℕ) (after : AfterPairs n (left + 1) root rest) wh
       }
 
 -- after all of them
-pub after-all : {n left root rest : ℕ} → left ≡ 0 → AfterPairs n left root rest → SquareRoot n root
+pub after-all : {n pairs-left root rest : ℕ} → pairs-left ≡ 0 → AfterPairs n pairs-left root rest → SquareRoot n root
 after-all {n} none after = rw (div-one n) at (rw none at (after .is-root))
