@@ -1,5 +1,6 @@
-//! docs/SQUARE-ROOT.md works out a square root by hand. Every equation on it is worked out again here, its
-//! table is followed from row to row, and the code's comment and the theorems are held to the same rows.
+//! docs/SQUARE-ROOT.md works out a square root by hand. Every equation in figures on it is worked out again
+//! here, its table is followed from row to row, and the code's comment and the theorems are held to the
+//! same rows.
 
 const PAGE: &str = include_str!("../../../docs/SQUARE-ROOT.md");
 const CODE: &str = include_str!("../../../crates/squares/src/lib.rt");
