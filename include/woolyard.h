@@ -26,6 +26,7 @@ extern "C" {
 #define WOOLYARD_HEAT_OUT_OF_RANGE 5      /* heat-capacity temperature not a number in 14 to 1000 K */
 #define WOOLYARD_SHEET_MALFORMED 6        /* sheet badly formed */
 #define WOOLYARD_SHEET_TOO_LONG 7         /* sheet longer than 65,536 bytes */
+#define WOOLYARD_NO_SUCH_SIDE 12          /* side is neither 0 nor 1 */
 #define WOOLYARD_NO_SUCH_LINE 16          /* no state line of the number asked for */
 #define WOOLYARD_TEMPERATURE_TOO_LOW 21   /* below 14,000 mK for parahydrogen, below 56,000 mK for oxygen */
 #define WOOLYARD_TEMPERATURE_TOO_HIGH 22  /* above 1,000,000 mK for either */
@@ -35,6 +36,10 @@ extern "C" {
 /* The fluids. */
 #define WOOLYARD_PARAHYDROGEN 0
 #define WOOLYARD_OXYGEN 1
+
+/* The sides of a state. */
+#define WOOLYARD_GAS 0
+#define WOOLYARD_DENSE 1
 
 /* The kinds of an answered state. A refused state has none. */
 #define WOOLYARD_KIND_NONE 0
@@ -47,6 +52,10 @@ extern "C" {
 #define WOOLYARD_DENSE_ROOT 2     /* the smallest */
 #define WOOLYARD_GAS_DENSITY 3    /* of each root, in grams per cubic metre, rounded down */
 #define WOOLYARD_DENSE_DENSITY 4
+
+/* Where the figures of one side lie. */
+#define WOOLYARD_ROOT 0     /* the gas root or the dense root */
+#define WOOLYARD_DENSITY 1  /* of that root */
 
 /* How many numbers a book has, and how many bytes a sheet may have. */
 #define WOOLYARD_BOOK_LENGTH 64
@@ -61,6 +70,17 @@ uint64_t woolyard_state(uint64_t fluid, uint64_t millikelvin, uint64_t pascals, 
  * what it is. Answers 0, 1, 21, 22, 31, 32 or 4; the first refusal in this order that applies is given. */
 uint64_t woolyard_state_with_book(uint64_t fluid, uint64_t millikelvin, uint64_t pascals, uint64_t slot, uint32_t *book, size_t book_length,
                                   uint64_t figures[5]);
+
+/* The reply to a state for the one side that is named: that side's root and density, which are zeros where it is refused. For a state of
+ * kind ONE both sides give the same figures. The side may be any number.
+ * Answers 0, 1, 21, 22, 31, 32 or 12; the first refusal in this order that applies is given. */
+uint64_t woolyard_side(uint64_t fluid, uint64_t millikelvin, uint64_t pascals, uint64_t side, uint64_t figures[2]);
+
+/* The same with a book, which is used as woolyard_state_with_book uses it: an answered call writes the gas root into its slot, whichever side
+ * is named, and touches no other place; a refused call writes nothing to the book.
+ * Answers 0, 1, 21, 22, 31, 32, 12 or 4; the first refusal in this order that applies is given. */
+uint64_t woolyard_side_with_book(uint64_t fluid, uint64_t millikelvin, uint64_t pascals, uint64_t side, uint64_t slot, uint32_t *book,
+                                 size_t book_length, uint64_t figures[2]);
 
 /* Hydrogen's ideal heat capacity at a temperature in kelvin, any double at all: kJ/(kg K), equal bit for bit to Table 4 evaluated from A5
  * down, each operation rounded once. Answers 0, or 5 and leaves *heat alone: below 14, above 1000, an infinity or a NaN. */

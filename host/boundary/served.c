@@ -10,9 +10,9 @@ long write(int file, const void *bytes, unsigned long length);
 
 /* The words of a call. What it lends follows, filled up to whole words. The reply's number takes the place
  * of the function's. */
-enum { FUNCTION, FIRST, SECOND, THIRD, FOURTH, LENGTH, LENT_BYTES, PLACES, LENT = PLACES + 5 };
+enum { FUNCTION, FIRST, SECOND, THIRD, FOURTH, FIFTH, LENGTH, LENT_BYTES, PLACES, LENT = PLACES + 5 };
 
-enum { STATE, STATE_WITH_BOOK, HEAT, SHEET, SHEET_LINE };
+enum { STATE, STATE_WITH_BOOK, SIDE, SIDE_WITH_BOOK, HEAT, SHEET, SHEET_LINE };
 
 #define WORDS 131072
 
@@ -45,6 +45,11 @@ static uint64_t make(size_t word)
     case STATE_WITH_BOOK:
         return woolyard_state_with_book(call[FIRST], call[SECOND], call[THIRD], call[FOURTH], book, call[LENGTH],
                                         call + PLACES);
+    case SIDE:
+        return woolyard_side(call[FIRST], call[SECOND], call[THIRD], call[FOURTH], call + PLACES);
+    case SIDE_WITH_BOOK:
+        return woolyard_side_with_book(call[FIRST], call[SECOND], call[THIRD], call[FOURTH], call[FIFTH], book,
+                                       call[LENGTH], call + PLACES);
     case HEAT:
         return heat(call[FIRST], call + PLACES);
     case SHEET:

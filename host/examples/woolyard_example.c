@@ -1,4 +1,5 @@
-/* The header in use: a state, the same with a book, a refusal, the heat capacity, a sheet and its lines, and a faulty sheet. */
+/* The header in use: a state, one side of it, the state with a book, refusals, the heat capacity, a sheet and its lines, and a faulty
+ * sheet. */
 #include "woolyard.h"
 #include <inttypes.h>
 #include <stdio.h>
@@ -23,6 +24,13 @@ int main(void)
            figures[WOOLYARD_KIND] == WOOLYARD_KIND_SPLIT ? "SPLIT" : "ONE");
     printf("  gas root %" PRIu64 ", %" PRIu64 " g/m3\n", figures[WOOLYARD_GAS_ROOT], figures[WOOLYARD_GAS_DENSITY]);
     printf("  dense root %" PRIu64 ", %" PRIu64 " g/m3\n", figures[WOOLYARD_DENSE_ROOT], figures[WOOLYARD_DENSE_DENSITY]);
+
+    uint64_t side_figures[2];
+    number = woolyard_side(WOOLYARD_OXYGEN, 120000, 500000, WOOLYARD_DENSE, side_figures);
+    printf("its dense side alone: reply %" PRIu64 ", root %" PRIu64 ", %" PRIu64 " g/m3\n", number, side_figures[WOOLYARD_ROOT],
+           side_figures[WOOLYARD_DENSITY]);
+    number = woolyard_side(WOOLYARD_OXYGEN, 120000, 500000, 2, side_figures);
+    printf("its side 2: reply %" PRIu64 "\n", number);
 
     uint32_t book[WOOLYARD_BOOK_LENGTH] = { 0 };
     number = woolyard_state_with_book(WOOLYARD_OXYGEN, 120000, 500000, 5, book, WOOLYARD_BOOK_LENGTH, figures);

@@ -8,16 +8,17 @@ import sys
 from ctypes import byref, c_double, c_size_t, c_uint32, c_uint64
 
 ANSWERED, SHEET_MALFORMED = 0, 6
-OXYGEN, KIND_SPLIT, BOOK_LENGTH = 1, 2, 64
+OXYGEN, DENSE, KIND_SPLIT, BOOK_LENGTH = 1, 1, 2, 64
 
 woolyard = ctypes.CDLL(sys.argv[1])
-Figures, Three, Book = c_uint64 * 5, c_uint64 * 3, c_uint32 * BOOK_LENGTH
+Figures, SideFigures, Three, Book = c_uint64 * 5, c_uint64 * 2, c_uint64 * 3, c_uint32 * BOOK_LENGTH
 woolyard.woolyard_state.argtypes = [c_uint64, c_uint64, c_uint64, Figures]
 woolyard.woolyard_state_with_book.argtypes = [c_uint64, c_uint64, c_uint64, c_uint64, Book, c_size_t, Figures]
+woolyard.woolyard_side.argtypes = [c_uint64, c_uint64, c_uint64, c_uint64, SideFigures]
 woolyard.woolyard_heat.argtypes = [c_double, ctypes.POINTER(c_double)]
 woolyard.woolyard_sheet.argtypes = [ctypes.c_char_p, c_size_t, Three]
 woolyard.woolyard_sheet_line.argtypes = [ctypes.c_char_p, c_size_t, c_uint64, Three]
-for name in ("state", "state_with_book", "heat", "sheet", "sheet_line"):
+for name in ("state", "state_with_book", "side", "heat", "sheet", "sheet_line"):
     getattr(woolyard, f"woolyard_{name}").restype = c_uint64
 
 
@@ -41,6 +42,13 @@ kind, gas_root, dense_root, gas_density, dense_density = figures
 print(f"oxygen at 120000 mK and 500000 Pa: reply {number}, {'SPLIT' if kind == KIND_SPLIT else 'ONE'}")
 print(f"  gas root {gas_root}, {gas_density} g/m3")
 print(f"  dense root {dense_root}, {dense_density} g/m3")
+
+side_figures = SideFigures()
+number = woolyard.woolyard_side(OXYGEN, 120000, 500000, DENSE, side_figures)
+root, density = side_figures
+print(f"its dense side alone: reply {number}, root {root}, {density} g/m3")
+number = woolyard.woolyard_side(OXYGEN, 120000, 500000, 2, side_figures)
+print(f"its side 2: reply {number}")
 
 book = Book()
 number = woolyard.woolyard_state_with_book(OXYGEN, 120000, 500000, 5, book, BOOK_LENGTH, figures)

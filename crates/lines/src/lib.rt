@@ -10,9 +10,9 @@ use sheets::Next;
 use sheets::State;
 
 // How many sections a sheet has: one a fluid, in the order of their numbers.
-const SECTIONS: u64 = 2;
+pub const SECTIONS: u64 = 2;
 
-const MOST_STATES: u64 = 1_000;
+pub const MOST_STATES: u64 = 1_000;
 
 // A line that is one number stands where a section may begin.
 fn count_line(cursor: Cursor, next: usize, count: u64) -> Line

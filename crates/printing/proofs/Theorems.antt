@@ -8,13 +8,13 @@ use Rattle.readings.specs.declared.Reading.the-variants.{StateLines, Malformed,
 use Rattle.sheets.specs.Grammar.{Pair, statesFrom}
 use Rattle.sheets.proofs.Theorems.{written-once}
 use Rattle.readings.proofs.Theorems.{reading-determined}
-use Rattle.wording.proofs.Theorems.{line-once, fault-once}
+use Rattle.wording.proofs.Theorems.{state-once, fault-once}
 use Rattle.printing.specs.Prints.{LinesText, ReadingText, Prints}
 
 lines-once : (states : List State) (text text′ : List ℕ) → LinesText states text → LinesText states text′ → text ≡ text′
 lines-once [] text text′ one other = one ∙ sym other
 lines-once (state ∷ states) text text′ one other =
-    one .4 ∙ ap₂ (λ (l m : List ℕ). l ++ m) (line-once state (one .0) (other .0) (one .2) (other .2)) (lines-once states (one .1) (other .1) (one .3) (other .3)) ∙ sym (other .4)
+    one .4 ∙ ap₂ (λ (l m : List ℕ). l ++ m) (state-once state (one .0) (other .0) (one .2) (other .2)) (lines-once states (one .1) (other .1) (one .3) (other .3)) ∙ sym (other .4)
 
 reading-once : (bytes : List ℕ) (reading : Reading) (text text′ : List ℕ) → ReadingText bytes reading text → ReadingText bytes reading text′ → text ≡ text′
 reading-once bytes (StateLines count) text text′ one other =

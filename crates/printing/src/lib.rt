@@ -7,11 +7,17 @@ ghost use Rattle.texts.specs.Texts.{Exactly};
 ghost use Rattle.texts.specs.Buffer.{longestLine, Puts, bytesOf, Sized};
 ghost use Rattle.printing.specs.Prints.{Prints};
 ghost use Rattle.printing.specs.Buffer.{longestText};
+use lines::MOST_STATES;
+use lines::SECTIONS;
 use readings::Reading;
 use sheets::Next;
+use texts::LONGEST_LINE;
 use texts::Text;
 use wording::fault_text;
 use wording::state_text;
+
+// As many of the longest lines as a sheet may have state lines.
+pub const LONGEST_TEXT: usize = LONGEST_LINE * (MOST_STATES * SECTIONS) as usize;
 
 fn put(buffer: &mut [u8], at: usize, line: Text) -> usize
     requires { ⌜ (at + longestLine ≤ length (now buffer)) × Sized line ⌝ }
@@ -24,7 +30,7 @@ fn put(buffer: &mut [u8], at: usize, line: Text) -> usize
 }
 
 // What is printed is gathered line by line in one pass, and a fault takes the place of all lines before it.
-// A sheet has at most 2,000 state lines, so the text never outgrows the buffer.
+// The buffer has room for as many lines as a sheet may have, so the text never outgrows it.
 fn gather(sheet: &[u8], buffer: &mut [u8]) -> usize
     requires { ⌜ longestText ≤ length (now buffer) ⌝ }
     ensures { λ r. ⌜ Counts r (now (buffer .exit)) ⌝ }
@@ -54,9 +60,9 @@ fn gather(sheet: &[u8], buffer: &mut [u8]) -> usize
     }
 }
 
-// The text of a sheet stands at the start of the buffer, which has room for as many lines as a sheet may
-// have. What is answered is its length; what lies behind it is not told.
-pub fn print(sheet: &[u8], buffer: &mut [u8; 96_000]) -> usize
+// The text of a sheet stands at the start of the buffer. What is answered is its length; what lies behind it
+// is not told.
+pub fn print(sheet: &[u8], buffer: &mut [u8; LONGEST_TEXT]) -> usize
     ensures { λ r. ⌜ Counts r (now (buffer .exit)) ⌝ }
     ensures { λ r. ⌜ Prints (now (sheet .entry)) (take r (now (buffer .exit))) ⌝ }
 {

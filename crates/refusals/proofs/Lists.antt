@@ -27,12 +27,32 @@ pub first-behind : (checks more : List Check) (refusal : ℕ) → NoneOf checks 
 first-behind [] more refusal none first = first
 first-behind (check ∷ checks) more refusal none first = inr (none .0, first-behind checks more refusal (none .1) first)
 
--- where none of the later checks applies they change nothing
-pub first-without : (checks more : List Check) (refusal : ℕ) → NoneOf more → FirstOf (checks ++ more) refusal → FirstOf checks refusal
-first-without [] more refusal none first = absurd (none-or-first more refusal none first)
-first-without (check ∷ checks) more refusal none (inl here) = inl here
-first-without (check ∷ checks) more refusal none (inr later) = inr (later .0, first-without checks more refusal none (later .1))
+-- Behind the same checks others may stand of which the same is told;
+first-behind-same : (checks more other : List Check) (refusal : ℕ) → (FirstOf more refusal → FirstOf other refusal) → FirstOf (checks ++ more) refusal → FirstOf (checks ++ other) refusal
+first-behind-same [] more other refusal same first = same first
+first-behind-same (check ∷ checks) more other refusal same (inl here) = inl here
+first-behind-same (check ∷ checks) more other refusal same (inr later) = inr (later .0, first-behind-same checks more other refusal same (later .1))
 
-pub tells-without : {Figures : Type 0} (checks more : List Check) {Refused : ℕ → Figures → Type 0} {Answers : Figures → Type 0} {figures : Figures} → NoneOf more → Tells (checks ++ more) Refused Answers figures → Tells checks Refused Answers figures
-tells-without checks more none (refuses refusal first told) = refuses refusal (first-without checks more refusal none first) told
-tells-without checks more none (answers passed told) = answers (none-front checks more passed) told
+none-behind : (checks more : List Check) → NoneOf (checks ++ more) → NoneOf more
+none-behind [] more none = none
+none-behind (check ∷ checks) more none = none-behind checks more (none .1)
+
+first-past : (checks more : List Check) (refusal : ℕ) → NoneOf checks → FirstOf (checks ++ more) refusal → FirstOf more refusal
+first-past [] more refusal none first = first
+first-past (check ∷ checks) more refusal none (inl here) = absurd (none .0 (here .0))
+first-past (check ∷ checks) more refusal none (inr later) = first-past checks more refusal (none .1) (later .1)
+
+module _ {Figures : Type 0} (checks : List Check) {Refused : ℕ → Figures → Type 0} {Answers : Figures → Type 0} {figures : Figures} where
+  tells-behind-same : (more other : List Check) → ((refusal : ℕ) → FirstOf more refusal → FirstOf other refusal) → (NoneOf more → NoneOf other) → Tells (checks ++ more) Refused Answers figures → Tells (checks ++ other) Refused Answers figures
+  tells-behind-same more other same none (refuses refusal first told) = refuses refusal (first-behind-same checks more other refusal (same refusal) first) told
+  tells-behind-same more other same none (answers passed told) =
+      answers (none-both checks other (none-front checks more passed) (none (none-behind checks more passed))) told
+
+  -- so checks of which none applies change nothing, behind all others
+  pub tells-without : (more : List Check) → NoneOf more → Tells (checks ++ more) Refused Answers figures → Tells (checks ++ []) Refused Answers figures
+  tells-without more none = tells-behind-same more [] (λ refusal first. none-or-first more refusal none first) (λ passed. tt)
+
+  -- and between others
+  pub tells-without-between : (between more : List Check) → NoneOf between → Tells (checks ++ (between ++ more)) Refused Answers figures → Tells (checks ++ more) Refused Answers figures
+  tells-without-between between more none =
+      tells-behind-same (between ++ more) more (λ refusal first. first-past between more refusal none first) (λ passed. none-behind between more passed)

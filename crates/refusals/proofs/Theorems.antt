@@ -5,9 +5,10 @@ use mathlib.Core.Logic.{_⊎_, inl, inr}
 use mathlib.Core.List.{List, [], _∷_, _++_}
 use mathlib.Core.Bool.{cond}
 use Prim.Native.Nat.{ℕ}
+use native.Mathlib.Omega.{arith}
 use lib.Dec.{eqb}
 use Rattle.refusals.specs.declared.Refusal.{Refusal}
-use Rattle.refusals.specs.declared.Refusal.the-variants.{NoSuchFluid, TemperatureTooLow, TemperatureTooHigh, PressureTooLow, PressureTooHigh, NoSuchSlot}
+use Rattle.refusals.specs.declared.Refusal.the-variants.{NoSuchFluid, TemperatureTooLow, TemperatureTooHigh, PressureTooLow, PressureTooHigh, NoSuchSide, NoSuchSlot}
 use Rattle.refusals.specs.Numbers.{numberOfRefusal}
 use Rattle.refusals.proofs.Lists.{none-or-first}
 use Rattle.refusals.specs.Checks.{Check, NoneOf, FirstOf, Tells, refuses, answers, Outcome, with-value, with-number, Gives}
@@ -65,7 +66,7 @@ find number [] = NoSuchFluid
 find number (refusal ∷ refusals) = cond (eqb (numberOfRefusal refusal) number) refusal (find number refusals)
 
 pub refusalOf : ℕ → Refusal
-refusalOf number = find number (NoSuchFluid ∷ TemperatureTooLow ∷ TemperatureTooHigh ∷ PressureTooLow ∷ PressureTooHigh ∷ NoSuchSlot ∷ [])
+refusalOf number = find number (NoSuchFluid ∷ TemperatureTooLow ∷ TemperatureTooHigh ∷ PressureTooLow ∷ PressureTooHigh ∷ NoSuchSide ∷ NoSuchSlot ∷ [])
 
 pub refusal-of-number : (refusal : Refusal) → refusalOf (numberOfRefusal refusal) ≡ refusal
 unfolding refusalOf find
@@ -74,7 +75,16 @@ refusal-of-number TemperatureTooLow = refl
 refusal-of-number TemperatureTooHigh = refl
 refusal-of-number PressureTooLow = refl
 refusal-of-number PressureTooHigh = refl
+refusal-of-number NoSuchSide = refl
 refusal-of-number NoSuchSlot = refl
+
+-- no refusal has the number of an answered call
+pub never-zero : (refusal : Refusal) → numberOfRefusal refusal ≡ 0 → ⊥
+unfolding refusalOf find
+never-zero refusal is-0 =
+    let first : refusal ≡ NoSuchFluid = sym (refusal-of-number refusal) ∙ ap refusalOf is-0 in
+    let is-1 : numberOfRefusal refusal ≡ 1 = ap numberOfRefusal first in
+    omega arith
 
 -- two answers that keep what `number` promises are equal
 pub number-determined : (refusal : Refusal) {number other : ℕ} → number ≡ numberOfRefusal refusal → other ≡ numberOfRefusal refusal → number ≡ other

@@ -9,6 +9,7 @@ pub enum Refusal {
     TemperatureTooHigh,
     PressureTooLow,
     PressureTooHigh,
+    NoSuchSide,
     NoSuchSlot,
 }
 
@@ -22,6 +23,7 @@ impl Refusal {
             Refusal::TemperatureTooHigh => 22,
             Refusal::PressureTooLow => 31,
             Refusal::PressureTooHigh => 32,
+            Refusal::NoSuchSide => 12,
             Refusal::NoSuchSlot => 4,
         }
     }

@@ -1,11 +1,17 @@
--- Figures have one reply, a reply has one set of figures, and a refused one has zeros. Assumes nothing.
-use mathlib.Core.Path.{_≡_, refl, sym, ap, _∙_}
+-- Figures have one reply, a reply has one set of figures, and a refused one has zeros; the whole reply's and a side's. Assumes nothing.
+use mathlib.Core.Path.{_≡_, refl, sym, ap, ap₂, _∙_}
 use Prim.Native.Nat.{ℕ, zero, suc}
-use Rattle.refusals.proofs.Theorems.{refusalOf, refusal-of-number}
+use native.Mathlib.Omega.{arith}
+use Rattle.refusals.proofs.Theorems.{refusalOf, refusal-of-number, never-zero}
+use Rattle.cubic.specs.Cubic.{ONE}
 use Rattle.replies.specs.declared.Reply.{Reply}
 use Rattle.replies.specs.declared.Reply.the-variants.{One, Split, Refused}
 use Rattle.replies.specs.declared.Figures.{Figures}
-use Rattle.replies.specs.Figures.{refusedWith, figuresOf}
+use Rattle.replies.specs.declared.sides.SideReply.{SideReply}
+use Rattle.replies.specs.declared.sides.SideReply.the-variants as Side
+use Rattle.replies.specs.declared.sides.SideFigures.{SideFigures}
+use Rattle.replies.specs.Figures.{numberOfKind, refusedWith, figuresOf}
+use Rattle.replies.specs.Sides.{gas, dense, forSide, figuresFor, sideRefusedWith, sideFiguresOf}
 
 -- the way back from figures to their reply
 ofKind : (kind : ℕ) → Figures → Reply
@@ -34,3 +40,42 @@ pub refused-carries-zeros : (reply : Reply) → (figuresOf reply .number ≡ 0 �
 refused-carries-zeros (One root grams) refused = absurd (refused refl)
 refused-carries-zeros (Split gas dense gas-density dense-density) refused = absurd (refused refl)
 refused-carries-zeros (Refused refusal) refused = refl
+
+-- ---- a side's reply
+numberOf : SideFigures → ℕ
+numberOf figures = figures .number
+
+pub figures-determine-side-reply : (r s : SideReply) → sideFiguresOf r ≡ sideFiguresOf s → r ≡ s
+unfolding numberOf
+figures-determine-side-reply (Side.Answered root density) (Side.Answered root′ density′) same =
+    ap₂ Side.Answered (ap (λ (f : SideFigures). f .root) same) (ap (λ (f : SideFigures). f .density) same)
+figures-determine-side-reply (Side.Answered root density) (Side.Refused refusal) same = absurd (never-zero refusal (sym (ap numberOf same)))
+figures-determine-side-reply (Side.Refused refusal) (Side.Answered root density) same = absurd (never-zero refusal (ap numberOf same))
+figures-determine-side-reply (Side.Refused refusal) (Side.Refused refusal′) same =
+    ap Side.Refused (sym (refusal-of-number refusal) ∙ ap refusalOf (ap numberOf same) ∙ refusal-of-number refusal′)
+
+pub side-figures-determined : (reply : SideReply) {f g : SideFigures} → f ≡ sideFiguresOf reply → g ≡ sideFiguresOf reply → f ≡ g
+side-figures-determined reply p q = p ∙ sym q
+
+pub refused-side-carries-zeros : (reply : SideReply) → (sideFiguresOf reply .number ≡ 0 → ⊥) → sideFiguresOf reply ≡ sideRefusedWith (sideFiguresOf reply .number)
+refused-side-carries-zeros (Side.Answered root density) refused = absurd (refused refl)
+refused-side-carries-zeros (Side.Refused refusal) refused = refl
+
+-- a ONE reply has the same for both sides
+pub one-for-both-sides : (reply : Reply) → figuresOf reply .kind ≡ numberOfKind ONE → figuresFor gas (figuresOf reply) ≡ figuresFor dense (figuresOf reply)
+one-for-both-sides (One root grams) is-one = refl
+one-for-both-sides (Split gas dense gas-density dense-density) is-one = absurd (omega arith)
+one-for-both-sides (Refused refusal) is-one = absurd (omega arith)
+
+equal-for-both : (side figure : ℕ) → forSide side figure figure ≡ figure
+equal-for-both zero figure = refl
+equal-for-both (suc side) figure = refl
+
+pub refused-for-side : (side refusal : ℕ) → sideRefusedWith refusal ≡ figuresFor side (refusedWith refusal)
+refused-for-side side refusal = rw (equal-for-both side 0) refl
+
+-- a side of every reply is the reply to a caller who names that side
+pub side-shown : (side : ℕ) (reply : Reply) → (shown : SideReply) × (sideFiguresOf shown ≡ figuresFor side (figuresOf reply))
+side-shown side (One root grams) = (Side.Answered root grams, rw (equal-for-both side root, equal-for-both side grams) refl)
+side-shown side (Split gas dense gas-density dense-density) = (Side.Answered (forSide side gas dense) (forSide side gas-density dense-density), refl)
+side-shown side (Refused refusal) = (Side.Refused refusal, refused-for-side side _)

@@ -1,2 +1,3 @@
--- What a reader must believe of a reply: the paper's number and figures of each of its cases.
+-- What a reader must believe of a reply: the paper's number and figures of each of its cases, and what of them a side has.
 pub mod Figures
+pub mod Sides

@@ -1,7 +1,13 @@
 // The reply to a state, and what the paper's table says of each of its cases.
+mod sides;
+
 ghost use mathlib.Core.Path.{_≡_};
 ghost use Rattle.replies.specs.Figures.{figuresOf, refusedWith};
 use refusals::Refusal;
+pub use sides::DENSE;
+pub use sides::GAS;
+pub use sides::SideFigures;
+pub use sides::SideReply;
 
 // Roots are in hundred-thousandths, densities in grams per cubic metre. The kind is the case: a state
 // whose two roots are equal is One, and has one density.

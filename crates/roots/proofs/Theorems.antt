@@ -2,9 +2,10 @@
 -- and an accepted state has roots. Assumes nothing.
 use mathlib.Core.Path.{_≡_, refl, sym, ap, _∙_}
 use mathlib.Core.Logic.{⊎-elim}
+use mathlib.Core.List.{List}
 use Prim.Native.Nat.{ℕ}
 use native.Mathlib.Omega.{arith}
-use Rattle.refusals.specs.Checks.{NoneOf, Outcome, with-value, with-number}
+use Rattle.refusals.specs.Checks.{Check, NoneOf, Outcome, with-value, with-number, Gives}
 use Rattle.refusals.proofs.Theorems.{gives-once, refusalOf, refusal-of-number}
 use Rattle.cubic.specs.Promise.{Within}
 use Rattle.cubic.proofs.Theorems.{gas-root-unique, dense-root-unique, gas-root-exists, dense-root-exists}
@@ -49,10 +50,14 @@ module _ (number millikelvin pascals : ℕ) where
       let fields : made (r .fluid) (r .gas) (r .dense) ≡ made (s .fluid) (s .gas) (s .dense) = cc in
       fields
 
-  pub finding-determined : (r s : Finding) → Finds number millikelvin pascals (finding r) → Finds number millikelvin pascals (finding s) → r ≡ s
-  finding-determined r s p q =
-      let same = gives-once (stateChecks number millikelvin pascals) roots-once (finding r) (finding s) p q in
+  -- whatever the list of checks is
+  pub finding-once : (checks : List Check) (r s : Finding) → Gives checks (HasRoots number millikelvin pascals) (finding r) → Gives checks (HasRoots number millikelvin pascals) (finding s) → r ≡ s
+  finding-once checks r s p q =
+      let same = gives-once checks roots-once (finding r) (finding s) p q in
       sym (finding-back r) ∙ ap findingOf same ∙ finding-back s
+
+  pub finding-determined : (r s : Finding) → Finds number millikelvin pascals (finding r) → Finds number millikelvin pascals (finding s) → r ≡ s
+  finding-determined = finding-once (stateChecks number millikelvin pascals)
 
   -- a state to which no check applies has two roots
   pub roots-exist : NoneOf (stateChecks number millikelvin pascals) → (found : Found) × HasRoots number millikelvin pascals found

@@ -2,13 +2,14 @@
 // has it.
 use libc::STDIN_FILENO;
 use libc::STDOUT_FILENO;
+use printing::LONGEST_TEXT;
 use printing::print;
 
 fn main() {
     // One byte more than a sheet may have, so that a longer one is told.
     let mut input = [0u8; 65_537];
     let read = io::read_full(STDIN_FILENO, &mut input);
-    let mut text = [0u8; 96_000];
+    let mut text = [0u8; LONGEST_TEXT];
     let written = print(&input[..read], &mut text);
     io::write_all(STDOUT_FILENO, &text[..written]);
 }

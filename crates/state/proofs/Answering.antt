@@ -1,32 +1,33 @@
 -- From what the crates below promise to what a call promises: an accepted state is within every bound that they ask, and its two roots with
 -- their densities are what the definitions name. Assumes nothing.
 use mathlib.Core.Path.{_≡_, refl, sym, ap, _∙_}
-use mathlib.Core.Logic.{_⊎_, inl, inr, ⊎-elim}
-use mathlib.Core.Bool.{true, false}
-use mathlib.Core.List.{List}
-use Prim.Native.Nat.{ℕ, _≤_, _<_}
-use native.Mathlib.Nat.{lt-of-not-le}
-use native.Mathlib.Decide.{decLe}
+use mathlib.Core.List.{List, _++_}
+use Prim.Native.Nat.{ℕ, zero, suc}
 use native.Mathlib.Omega.{arith}
 use lib.ListN.{length, set}
-use Rattle.refusals.specs.Checks.{NoneOf, FirstOf, refuses, answers}
-use Rattle.refusals.proofs.Lists.{none-both, first-front, first-behind}
+use Rattle.refusals.specs.Checks.{Check, refuses, answers, with-value, with-number, Gives}
+use Rattle.refusals.proofs.Lists.{none-front}
 use Rattle.cubic.specs.Cubic.{Crossing, Kind, ONE, SPLIT}
-use Rattle.cubic.proofs.Theorems.{crossing-from-b, crossing-on-grid}
+use Rattle.cubic.proofs.Theorems.{crossing-from-b, crossing-on-grid, kind-exists}
 use Rattle.fluid.specs.declared.choice.Fluid.{Fluid}
 use Rattle.fluid.specs.declared.coefficients.Reduced.{Reduced}
 use Rattle.fluid.specs.Figures.{Accepted}
 use Rattle.fluid.specs.Checks.{stateChecks}
 use Rattle.fluid.specs.Reduced.{Reduces}
-use Rattle.densities.specs.Promise.{Weighable}
-use Rattle.roots.specs.Promise.{Found, HasRoots}
 use Rattle.fluid.proofs.Accepting.{accepts}
 use Rattle.fluid.proofs.Theorems.{some-temperature, b-at-least-one, b-at-most}
+use Rattle.densities.specs.Densities.{density}
+use Rattle.densities.specs.Promise.{Weighable}
+use Rattle.roots.specs.Promise.{Found, HasRoots}
+use Rattle.calls.specs.declared.Form.{Form}
+use Rattle.calls.specs.Checks.{formChecks, slotChecks}
+use Rattle.calls.specs.Promise.{FindsWithBook}
 use Rattle.replies.specs.declared.Figures.{Figures}
 use Rattle.replies.specs.Figures.{numberOfKind, refusedWith}
-use Rattle.state.specs.Replies.{Answered}
-use Rattle.state.specs.Book.{slotChecks, Placed, ifKind, bookAfter, Called}
-use Rattle.state.specs.Inside.{Weighty, Reported, Leaves}
+use Rattle.replies.specs.Sides.{gas, forSide}
+use Rattle.state.specs.Replies.{Told}
+use Rattle.state.specs.Book.{ifKind, bookAfter, CalledAs}
+use Rattle.state.specs.Inside.{Weighty, Reported, ReportedForSide}
 
 module _ {fluid : Fluid} {millikelvin pascals : ℕ} {reduced : Reduced} (accepted : Accepted fluid millikelvin pascals) (reduces : Reduces fluid millikelvin pascals reduced) where
   weighable : {z : ℕ} → Crossing (reduced .a) (reduced .b) z → Weighable millikelvin pascals z
@@ -40,59 +41,67 @@ module _ {fluid : Fluid} {millikelvin pascals : ℕ} {reduced : Reduced} (accept
         crossing-on-grid _ _ z crossing,
       )
 
+-- a side that is not gas has the dense one of two figures
+pub other-for : (side of-gas of-dense : ℕ) → (side ≡ gas → ⊥) → of-dense ≡ forSide side of-gas of-dense
+other-for zero of-gas of-dense other = absurd (other refl)
+other-for (suc side) of-gas of-dense other = refl
+
+-- the root for a side is one of the two, and its density the one of theirs for that side
+weighed-for : (weighs : ℕ → ℕ) (side of-gas of-dense : ℕ) → weighs (forSide side of-gas of-dense) ≡ forSide side (weighs of-gas) (weighs of-dense)
+weighed-for weighs zero of-gas of-dense = refl
+weighed-for weighs (suc side) of-gas of-dense = refl
+
+module _ {millikelvin pascals gas dense : ℕ} where
+  pub weighable-for : (side : ℕ) → Weighty millikelvin pascals gas dense → Weighable millikelvin pascals (forSide side gas dense)
+  weighable-for zero weighty = weighty .gas-fits
+  weighable-for (suc side) weighty = weighty .dense-fits
+
+  pub reported-for : (fluid : Fluid) (side root grams : ℕ) → root ≡ forSide side gas dense → grams ≡ density fluid millikelvin pascals root → ReportedForSide fluid millikelvin pascals side gas dense (record { number = 0; root = root; density = grams })
+  reported-for fluid side root grams is-root is-density =
+      let kind = kind-exists gas dense in
+      record { whole = _; reported = record { kind = kind .0; is-kind = kind .1; is-figures = refl }; is-told = rw (is-density, is-root, weighed-for (density fluid millikelvin pascals) side gas dense) refl }
+
 -- an answered call writes, whichever kind it has
 writes : (kind : Kind) (written before : List ℕ) → ifKind (numberOfKind kind) written before ≡ written
 writes ONE written before = refl
 writes SPLIT written before = refl
 
-module _ {number millikelvin pascals : ℕ} {found : Found} (passes : NoneOf (stateChecks number millikelvin pascals)) (roots : HasRoots number millikelvin pascals found) where
-  accepted : Accepted (found .fluid) millikelvin pascals
-  accepted = accepts (found .fluid) (roots .is-number) millikelvin pascals passes
+-- whatever checks stand behind a state's own
+module _ (number millikelvin pascals : ℕ) (more : List Check) where
+  pub refused : (refusal : ℕ) → Gives (stateChecks number millikelvin pascals ++ more) (HasRoots number millikelvin pascals) (with-number refusal) → Told number millikelvin pascals more (refusedWith refusal)
+  refused refusal first = refuses refusal first refl
 
-  pub weighty : Weighty millikelvin pascals (found .gas) (found .dense)
-  weighty =
-      record {
-        gas-fits = weighable accepted (roots .reduces) (roots .is-gas .crossing);
-        dense-fits = weighable accepted (roots .reduces) (roots .is-dense .crossing);
-      }
-
-  -- the gas root fits a slot of the book
-  pub fits-slot : found .gas < 4294967296
-  fits-slot = omega (arith, b-at-most accepted (roots .reduces), crossing-on-grid _ _ (found .gas) (roots .is-gas .crossing))
-
-  pub answered : {figures : Figures} → Reported (found .fluid) millikelvin pascals (found .gas) (found .dense) figures → Answered number millikelvin pascals figures
-  answered reported =
-      record {
-        found = found;
-        roots = roots;
-        kind = reported .kind;
-        is-kind = reported .is-kind;
-        is-figures = reported .is-figures;
-      }
-
-  module _ (slot : ℕ) (book after : List ℕ) where
-    pub answered-in-slot : {figures : Figures} → Leaves book slot (found .gas) after true → Reported (found .fluid) millikelvin pascals (found .gas) (found .dense) figures → Called number millikelvin pascals slot book figures after
-    answered-in-slot left reported =
-        let placed : Placed slot (length book) = (⊎-elim (λ other. other (left .0)) (λ past. omega (arith, left .1)), tt) in
+  module _ (found : Found) (finds : Gives (stateChecks number millikelvin pascals ++ more) (HasRoots number millikelvin pascals) (with-value found)) where
+    pub weighty : Weighty millikelvin pascals (found .gas) (found .dense)
+    weighty =
+        let roots = finds .1 in
+        let passes = none-front (stateChecks number millikelvin pascals) more (finds .0) in
+        let accepted = accepts (found .fluid) (roots .is-number) millikelvin pascals passes in
         record {
-          replies = answers (none-both (stateChecks number millikelvin pascals) (slotChecks slot (length book)) passes placed) (answered reported);
-          leaves = left .2 ∙ sym (ap (bookAfter book slot) (reported .is-figures) ∙ writes (reported .kind) (set book slot (found .gas)) book);
+          gas-fits = weighable accepted (roots .reduces) (roots .is-gas .crossing);
+          dense-fits = weighable accepted (roots .reduces) (roots .is-dense .crossing);
         }
 
-    pub refused-by-slot : {refusal : ℕ} → refusal ≡ 4 → Leaves book slot (found .gas) after false → Called number millikelvin pascals slot book (refusedWith refusal) after
-    refused-by-slot {refusal} is-4 left =
-        record {
-          replies = refuses refusal (first-behind (stateChecks number millikelvin pascals) (slotChecks slot (length book)) refusal passes (inl (by-slot (decLe slot 63), is-4))) refl;
-          leaves = left .1;
-        }
-      where
-        by-slot : Dec (slot ≤ 63) → (length book ≡ 64 → ⊥) ⊎ (63 < slot)
-        by-slot (yes there) = inl (λ is-book. left .0 is-book there)
-        by-slot (no f) = inr (lt-of-not-le f)
+    pub answered : {figures : Figures} → Reported (found .fluid) millikelvin pascals (found .gas) (found .dense) figures → Told number millikelvin pascals more figures
+    answered reported =
+        answers (finds .0)
+        (record { found = found; roots = finds .1; kind = reported .kind; is-kind = reported .is-kind; is-figures = reported .is-figures })
 
-pub refused-before-slot : (number millikelvin pascals slot : ℕ) (book : List ℕ) (refusal : ℕ) → FirstOf (stateChecks number millikelvin pascals) refusal → Called number millikelvin pascals slot book (refusedWith refusal) book
-refused-before-slot number millikelvin pascals slot book refusal first =
-    record {
-      replies = refuses refusal (first-front (stateChecks number millikelvin pascals) (slotChecks slot (length book)) refusal first) refl;
-      leaves = refl;
-    }
+-- with a book
+module _ (form : Form) (number millikelvin pascals slot : ℕ) (book after : List ℕ) where
+  abbrev checks : List Check
+  checks = formChecks form ++ slotChecks slot (length book)
+
+  pub refused-with-book : (refusal : ℕ) → FindsWithBook form number millikelvin pascals slot book (with-number refusal) after → CalledAs form number millikelvin pascals slot book (refusedWith refusal) after
+  refused-with-book refusal found = record { replies = refused number millikelvin pascals checks refusal (found .finds); leaves = found .leaves }
+
+  module _ (found : Found) (finds : FindsWithBook form number millikelvin pascals slot book (with-value found) after) where
+    pub weighty-with-book : Weighty millikelvin pascals (found .gas) (found .dense)
+    weighty-with-book = weighty number millikelvin pascals checks found (finds .finds)
+
+    pub answered-with-book : {figures : Figures} → Reported (found .fluid) millikelvin pascals (found .gas) (found .dense) figures → CalledAs form number millikelvin pascals slot book figures after
+    answered-with-book reported =
+        record {
+          replies = answered number millikelvin pascals checks found (finds .finds) reported;
+          leaves = finds .leaves ∙ sym (ap (bookAfter book slot) (reported .is-figures) ∙ writes (reported .kind) (set book slot (found .gas)) book);
+        }

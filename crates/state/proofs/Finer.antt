@@ -14,7 +14,8 @@ use Rattle.fluid.proofs.Accepting.{fluid-or-none}
 use Rattle.replies.specs.declared.Figures.{Figures}
 use Rattle.replies.specs.Figures.{refusedWith}
 use Rattle.state.specs.Replies.{NumberAndZeros, Answered, Replies}
-use Rattle.state.specs.Book.{slotChecks, bookAfter, Called}
+use Rattle.calls.specs.Checks.{slotChecks}
+use Rattle.state.specs.Book.{bookAfter, Called}
 use Rattle.state.proofs.Determined.{told-once}
 
 abbrev pub TemperatureOut : (number millikelvin : ℕ) → Type 0

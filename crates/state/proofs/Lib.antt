@@ -2,5 +2,6 @@
 pub mod Answering
 pub mod Determined
 pub mod Existence
+pub mod Sharing
 pub mod Theorems
 pub mod Finer

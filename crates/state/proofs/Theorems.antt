@@ -1,31 +1,40 @@
--- What is proved of the calls, beside their contracts: no crossing of an accepted state goes unreported, nothing that the book holds changes a
--- reply, two customers who share a slot get what each would get alone, and each contract fixes the reply and the book. Assumes nothing.
+-- What is proved of the calls, beside their contracts: no crossing of an accepted state goes unreported, a side is told what the whole reply has
+-- for it, nothing that the book holds changes a reply, two customers who share a slot get what each would get alone, and each contract fixes the
+-- reply and the book. Assumes nothing.
 use mathlib.Core.Path.{_≡_, refl, sym, ap, ap₂, _∙_}
 use mathlib.Core.Logic.{_⊎_}
 use mathlib.Core.List.{List, [], _∷_, _++_}
-use Prim.Native.Nat.{ℕ, zero, suc, _≤_}
-use lib.ListN.{length, set, replicate, length-set, length-replicate}
-use Rattle.refusals.specs.Checks.{refuses, answers}
-use Rattle.refusals.proofs.Lists.{none-or-first, tells-without}
-use Rattle.cubic.specs.Cubic.{Crossing, GasRoot, DenseRoot}
+use Prim.Native.Nat.{ℕ, _≤_}
+use lib.ListN.{length, replicate, length-replicate}
+use Rattle.refusals.specs.Checks.{NoneOf, refuses, answers}
+use Rattle.refusals.proofs.Lists.{none-or-first, tells-without, tells-without-between}
+use Rattle.cubic.specs.Cubic.{ONE, Crossing, GasRoot, DenseRoot}
 use Rattle.cubic.proofs.Theorems as cubic
 use Rattle.fluid.specs.declared.choice.Fluid.{Fluid}
 use Rattle.fluid.specs.declared.coefficients.Reduced.{Reduced}
 use Rattle.fluid.specs.Figures.{numberOf, Accepted}
 use Rattle.fluid.specs.Checks.{stateChecks}
 use Rattle.fluid.specs.Reduced.{Reduces}
+use Rattle.fluid.proofs.Accepting.{passes}
 use Rattle.fluid.proofs.Fluids.{number-determines-fluid}
 use Rattle.fluid.proofs.Theorems.{reduced-determined}
 use Rattle.replies.specs.declared.Reply.{Reply}
+use Rattle.replies.specs.declared.sides.SideReply.{SideReply}
 use Rattle.replies.specs.declared.Figures.{Figures}
-use Rattle.replies.specs.Figures.{figuresOf}
-use Rattle.replies.proofs.Theorems.{figures-determine-reply}
-use Rattle.state.specs.Replies.{Answered, Replies}
-use Rattle.state.specs.Book.{slotChecks, Placed, RepliesWithBook, ifKind, bookAfter, Called, Asked, without-book, with-book}
-use Rattle.state.specs.Shared.{Call, Gets, Shared, Alone}
-use Rattle.fluid.proofs.Accepting.{passes, state-decided}
-use Rattle.state.proofs.Determined.{told-once}
-use Rattle.state.proofs.Existence.{told, slot-decided}
+use Rattle.replies.specs.declared.sides.SideFigures.{SideFigures}
+use Rattle.replies.specs.Figures.{numberOfKind, figuresOf}
+use Rattle.replies.specs.Sides.{gas, dense, figuresFor, sideFiguresOf}
+use Rattle.replies.proofs.Theorems.{figures-determine-reply, figures-determine-side-reply, one-for-both-sides, side-shown}
+use Rattle.calls.specs.declared.Form.{Form}
+use Rattle.calls.specs.declared.Form.the-variants.{Whole, Side}
+use Rattle.calls.specs.Checks.{formChecks, slotChecks, Placed}
+use Rattle.calls.proofs.Theorems.{call-decided, call-with-book-decided}
+use Rattle.state.specs.Replies.{Answered, Told, Replies, RepliesForSide}
+use Rattle.state.specs.Book.{bookAfter, CalledAs, Called, CalledForSide, Asked, without-book, with-book}
+use Rattle.state.specs.Shared.{Call, AnswerTo, Gets, Answers, Shared, Alone}
+use Rattle.state.proofs.Determined.{same-told}
+use Rattle.state.proofs.Existence.{told}
+use Rattle.state.proofs.Sharing.{figures-once, called-once, shown-once, shown, keeps-length, shared-gets-alone}
 
 -- Every accepted state is answered, and the two roots reported are all the crossings there are, whatever a book holds.
 module _ {fluid : Fluid} {millikelvin pascals : ℕ} {reduced : Reduced} {figures : Figures} (accepted : Accepted fluid millikelvin pascals) (reduces : Reduces fluid millikelvin pascals reduced) (asked : Asked (numberOf fluid) millikelvin pascals figures) where
@@ -33,9 +42,9 @@ module _ {fluid : Fluid} {millikelvin pascals : ℕ} {reduced : Reduced} {figure
   answer = told (without asked)
     where
       without : Asked (numberOf fluid) millikelvin pascals figures → Replies (numberOf fluid) millikelvin pascals figures
-      without (without-book replies) = replies
-      without (with-book slot before after placed called) =
-          tells-without (stateChecks (numberOf fluid) millikelvin pascals) (slotChecks slot (length before)) placed (called .replies)
+      without (without-book form none replies) = tells-without (stateChecks (numberOf fluid) millikelvin pascals) (formChecks form) none replies
+      without (with-book form slot before after none called) =
+          tells-without (stateChecks (numberOf fluid) millikelvin pascals) (formChecks form ++ slotChecks slot (length before)) none (called .replies)
 
       told : Replies (numberOf fluid) millikelvin pascals figures → Answered (numberOf fluid) millikelvin pascals figures
       told (refuses refusal first zeros) = absurd (none-or-first (stateChecks (numberOf fluid) millikelvin pascals) refusal (passes fluid refl millikelvin pascals accepted) first)
@@ -64,85 +73,131 @@ module _ {fluid : Fluid} {millikelvin pascals : ℕ} {reduced : Reduced} {figure
   pub dense-is-smallest : (z : ℕ) → Crossing (reduced .a) (reduced .b) z → figures .«dense_root» ≤ z
   dense-is-smallest = dense-root-is-reported .smallest
 
--- two replies that keep what `ask` promises are equal
-pub reply-determined : (number millikelvin pascals : ℕ) (r s : Reply) → Replies number millikelvin pascals (figuresOf r) → Replies number millikelvin pascals (figuresOf s) → r ≡ s
-reply-determined number millikelvin pascals r s p q =
-    figures-determine-reply r s (told-once number millikelvin pascals (stateChecks number millikelvin pascals) (figuresOf r) (figuresOf s) p q)
+  -- and a side is told the root that it is named for
+  pub gas-side-has-gas-root : {side : SideFigures} → side ≡ figuresFor gas figures → GasRoot (reduced .a) (reduced .b) (side .root)
+  gas-side-has-gas-root same = rw same gas-root-is-reported
 
--- A book's own contents change no reply: any two books of the same length give the same.
-module _ (number millikelvin pascals slot : ℕ) where
-  pub book-never-matters : (book other : List ℕ) → length book ≡ length other → {r s : Reply} {after after′ : List ℕ} → Called number millikelvin pascals slot book (figuresOf r) after → Called number millikelvin pascals slot other (figuresOf s) after′ → r ≡ s
-  book-never-matters book other same {r} {s} p q =
-      figures-determine-reply r s
-      (told-once number millikelvin pascals (stateChecks number millikelvin pascals ++ slotChecks slot (length other)) (figuresOf r) (figuresOf s) (rw same at (p .replies)) (q .replies))
+  pub dense-side-has-dense-root : {side : SideFigures} → side ≡ figuresFor dense figures → DenseRoot (reduced .a) (reduced .b) (side .root)
+  dense-side-has-dense-root same = rw same dense-root-is-reported
 
-  -- and where the book has the slot, a call without a book gives the same
-  pub same-without-book : {book after : List ℕ} {r s : Reply} → Placed slot (length book) → Called number millikelvin pascals slot book (figuresOf r) after → Replies number millikelvin pascals (figuresOf s) → r ≡ s
-  same-without-book {book} {r = r} {s} placed p q =
-      reply-determined number millikelvin pascals r s (tells-without (stateChecks number millikelvin pascals) (slotChecks slot (length book)) placed (p .replies)) q
+-- Two replies that keep what `ask` promises are equal, and so are two that keep what `ask_side` promises.
+module _ (number millikelvin pascals : ℕ) where
+  pub reply-determined : (r s : Reply) → Replies number millikelvin pascals (figuresOf r) → Replies number millikelvin pascals (figuresOf s) → r ≡ s
+  reply-determined r s p q = figures-determine-reply r s (same-told number millikelvin pascals [] (figuresOf r) (figuresOf s) p q)
 
-  -- two calls that keep what `ask_with_book` promises give one reply and leave one book
-  pub call-determined : (book : List ℕ) {r s : Reply} {after after′ : List ℕ} → Called number millikelvin pascals slot book (figuresOf r) after → Called number millikelvin pascals slot book (figuresOf s) after′ → (r ≡ s) × (after ≡ after′)
-  call-determined book p q =
-      let same = book-never-matters book book refl p q in
-      (same, p .leaves ∙ ap (λ (reply : Reply). bookAfter book slot (figuresOf reply)) same ∙ sym (q .leaves))
+  module _ (side : ℕ) where
+    pub side-determined : (r s : SideReply) → RepliesForSide number millikelvin pascals side (sideFiguresOf r) → RepliesForSide number millikelvin pascals side (sideFiguresOf s) → r ≡ s
+    side-determined r s p q =
+        let same = same-told number millikelvin pascals (formChecks (Side side)) (p .whole) (q .whole) (p .replies) (q .replies) in
+        figures-determine-side-reply r s (p .is-told ∙ ap (figuresFor side) same ∙ sym (q .is-told))
 
+    -- a side that there is gets just what the whole reply has for it,
+    module _ (named : NoneOf (formChecks (Side side))) {whole : Figures} {told : SideFigures} where
+      pub side-of-whole : Replies number millikelvin pascals whole → RepliesForSide number millikelvin pascals side told → told ≡ figuresFor side whole
+      side-of-whole p q =
+          let replies : Replies number millikelvin pascals (q .whole) = tells-without (stateChecks number millikelvin pascals) (formChecks (Side side)) named (q .replies) in
+          q .is-told ∙ ap (figuresFor side) (same-told number millikelvin pascals [] (q .whole) whole replies p)
+
+      -- with a book too, and the book is left as by the whole call
+      pub side-of-whole-with-book : {slot : ℕ} {book after after′ : List ℕ} → Called number millikelvin pascals slot book whole after → CalledForSide number millikelvin pascals side slot book told after′ → (told ≡ figuresFor side whole) × (after ≡ after′)
+      side-of-whole-with-book {slot} {book} p q =
+          let more = slotChecks slot (length book) in
+          let replies : Told number millikelvin pascals more (q .whole) = tells-without-between (stateChecks number millikelvin pascals) (formChecks (Side side)) more named (q .called .replies) in
+          let same : q .whole ≡ whole = same-told number millikelvin pascals more (q .whole) whole replies (p .replies) in
+          (q .is-told ∙ ap (figuresFor side) same, p .leaves ∙ sym (q .called .leaves ∙ ap (bookAfter book slot) same))
+
+  -- both sides of a ONE state get the same
+  pub one-has-equal-sides : (r : Reply) (of-gas of-dense : SideReply) → Replies number millikelvin pascals (figuresOf r) → figuresOf r .kind ≡ numberOfKind ONE → RepliesForSide number millikelvin pascals gas (sideFiguresOf of-gas) → RepliesForSide number millikelvin pascals dense (sideFiguresOf of-dense) → of-gas ≡ of-dense
+  one-has-equal-sides r of-gas of-dense p is-one q q′ =
+      let gas-named : NoneOf (formChecks (Side gas)) = (λ neither. neither .0 refl, tt) in
+      let dense-named : NoneOf (formChecks (Side dense)) = (λ neither. neither .1 refl, tt) in
+      figures-determine-side-reply of-gas of-dense
+      (side-of-whole gas gas-named p q ∙ one-for-both-sides r is-one ∙ sym (side-of-whole dense dense-named p q′))
+
+-- ---- with a book
+module _ (form : Form) (number millikelvin pascals slot : ℕ) where
   -- a refused call leaves the book as it was; an answered one changes the slot alone
-  pub refused-changes-nothing : {book after : List ℕ} {figures : Figures} → (figures .number ≡ 0 → ⊥) → Called number millikelvin pascals slot book figures after → after ≡ book
+  pub refused-changes-nothing : {book after : List ℕ} {figures : Figures} → (figures .number ≡ 0 → ⊥) → CalledAs form number millikelvin pascals slot book figures after → after ≡ book
   refused-changes-nothing {book} {after} {figures} refused called = by-reply (called .replies)
     where
-      by-reply : RepliesWithBook number millikelvin pascals slot (length book) figures → after ≡ book
+      by-reply : Told number millikelvin pascals (formChecks form ++ slotChecks slot (length book)) figures → after ≡ book
       by-reply (refuses refusal first zeros) = called .leaves ∙ ap (bookAfter book slot) zeros
       by-reply (answers none answered) = absurd (refused (ap (λ (f : Figures). f .number) (answered .is-figures)))
 
-  book-keeps-length : {book after : List ℕ} {figures : Figures} → Called number millikelvin pascals slot book figures after → length after ≡ length book
-  book-keeps-length {book} {figures = figures} called = ap length (called .leaves) ∙ by-kind (figures .kind)
-    where
-      by-kind : (kind : ℕ) → length (ifKind kind (set book slot (figures .«gas_root»)) book) ≡ length book
-      by-kind zero = refl
-      by-kind (suc kind) = length-set book slot (figures .«gas_root»)
+-- two calls that keep what `ask_with_book` or `ask_side_with_book` promises give one reply and leave one book
+module _ (number millikelvin pascals : ℕ) where
+  pub call-determined : (slot : ℕ) (book : List ℕ) {r s : Reply} {after after′ : List ℕ} → Called number millikelvin pascals slot book (figuresOf r) after → Called number millikelvin pascals slot book (figuresOf s) after′ → (r ≡ s) × (after ≡ after′)
+  call-determined slot book {r} {s} p q =
+      let same = called-once Whole number millikelvin pascals slot book p q in
+      (figures-determine-reply r s (same .0), same .1)
 
--- what a call gets on one book it gets on any other of the same length
-gets-on : {call : Call} {book own : List ℕ} {reply : Reply} → length book ≡ length own → Gets call book reply → Gets call own reply
-gets-on {call} {own = own} {reply} same gets =
-    record { after = bookAfter own (call .slot) (figuresOf reply); called = record { replies = rw same at (gets .called .replies); leaves = refl } }
+  pub side-call-determined : (side slot : ℕ) (book : List ℕ) {r s : SideReply} {after after′ : List ℕ} → CalledForSide number millikelvin pascals side slot book (sideFiguresOf r) after → CalledForSide number millikelvin pascals side slot book (sideFiguresOf s) after′ → (r ≡ s) × (after ≡ after′)
+  side-call-determined side slot book {r} {s} p q =
+      let same = called-once (Side side) number millikelvin pascals slot book (p .called) (q .called) in
+      (figures-determine-side-reply r s (p .is-told ∙ ap (figuresFor side) (same .0) ∙ sym (q .is-told)), same .1)
 
-shared-gets-alone : (book own : List ℕ) → length book ≡ length own → (calls : List Call) (replies : List Reply) → Shared book calls replies → Alone own calls replies
-shared-gets-alone book own same [] [] shared = tt
-shared-gets-alone book own same [] (reply ∷ replies) shared = absurd shared
-shared-gets-alone book own same (call ∷ calls) [] shared = absurd shared
-shared-gets-alone book own same (call ∷ calls) (reply ∷ replies) (gets, shared) =
-    (gets-on same gets, shared-gets-alone (gets .after) own (book-keeps-length _ _ _ _ (gets .called) ∙ same) calls replies shared)
+  -- where the book has the slot, a call without a book gives the same
+  pub same-without-book : {slot : ℕ} {book after : List ℕ} {r s : Reply} → Placed slot (length book) → Called number millikelvin pascals slot book (figuresOf r) after → Replies number millikelvin pascals (figuresOf s) → r ≡ s
+  same-without-book {slot} {book} {r = r} {s} placed p q =
+      reply-determined number millikelvin pascals r s (tells-without (stateChecks number millikelvin pascals) (slotChecks slot (length book)) placed (p .replies)) q
 
-pub alone-determined : (book : List ℕ) (calls : List Call) (replies others : List Reply) → Alone book calls replies → Alone book calls others → replies ≡ others
-alone-determined book [] [] [] p q = refl
-alone-determined book [] [] (other ∷ others) p q = absurd q
-alone-determined book [] (reply ∷ replies) others p q = absurd p
-alone-determined book (call ∷ calls) [] others p q = absurd p
-alone-determined book (call ∷ calls) (reply ∷ replies) [] p q = absurd q
-alone-determined book (call ∷ calls) (reply ∷ replies) (other ∷ others) (gets, p) (gets′, q) =
-    ap₂ _∷_ (book-never-matters _ _ _ _ book book refl (gets .called) (gets′ .called)) (alone-determined book calls replies others p q)
+-- ---- calls of both forms
+-- what the calls promise is what `Gets` says of them
+module _ {number millikelvin pascals slot : ℕ} {book after : List ℕ} where
+  pub whole-gets : {reply : Reply} → Called number millikelvin pascals slot book (figuresOf reply) after → Gets (record { fluid = number; millikelvin = millikelvin; pascals = pascals; form = Whole; slot = slot }) book reply
+  whole-gets called = record { figures = _; after = after; called = called; shows = refl }
 
--- For every list of calls made one after another on one book, whatever it held, each reply is one that the call gets alone with a book of zeros;
-module _ (book : List ℕ) (calls : List Call) (replies : List Reply) (shared : Shared book calls replies) where
-  pub shared-slot-gets-alone : Alone (replicate (length book) 0) calls replies
-  shared-slot-gets-alone = shared-gets-alone book _ (sym (length-replicate (length book) 0)) calls replies shared
+  pub side-gets : {side : ℕ} {reply : SideReply} → CalledForSide number millikelvin pascals side slot book (sideFiguresOf reply) after → Gets (record { fluid = number; millikelvin = millikelvin; pascals = pascals; form = Side side; slot = slot }) book reply
+  side-gets called = record { figures = called .whole; after = after; called = called .called; shows = called .is-told }
+
+-- one call, on any two books of the same length, gets one answer
+pub same-on-any-book : (call : Call) (book other : List ℕ) → length book ≡ length other → {answer answer′ : AnswerTo (call .form)} → Gets call book answer → Gets call other answer′ → answer ≡ answer′
+same-on-any-book call book other same {answer} {answer′} p q =
+    let same-figures = figures-once (call .form) (call .fluid) (call .millikelvin) (call .pascals) (call .slot) book other same (p .called) (q .called) in
+    shown-once (call .form) (q .figures) answer answer′ (rw same-figures at (p .shows)) (q .shows)
+
+-- For every list of calls of both forms, made one after another on one book, what it held changes no answer.
+pub book-never-matters : (book other : List ℕ) → length book ≡ length other → (calls : List Call) (got others : Answers calls) → Shared book calls got → Shared other calls others → got ≡ others
+book-never-matters book other same [] got others p q = refl
+book-never-matters book other same (call ∷ calls) (one, got) (other-one, others) (gets, p) (gets′, q) =
+    ap₂ (λ (first : AnswerTo (call .form)) (rest : Answers calls). (first, rest)) (same-on-any-book call book other same gets gets′)
+    (book-never-matters (gets .after) (gets′ .after) (keeps-length gets ∙ same ∙ sym (keeps-length gets′)) calls got others p q)
+
+pub alone-determined : (book : List ℕ) (calls : List Call) (got others : Answers calls) → Alone book calls got → Alone book calls others → got ≡ others
+alone-determined book [] got others p q = refl
+alone-determined book (call ∷ calls) (one, got) (other-one, others) (gets, p) (gets′, q) =
+    ap₂ (λ (first : AnswerTo (call .form)) (rest : Answers calls). (first, rest)) (same-on-any-book call book book refl gets gets′) (alone-determined book calls got others p q)
+
+-- For every such list each answer is one that the call gets alone with a book of zeros;
+module _ (book : List ℕ) (calls : List Call) (got : Answers calls) (shared : Shared book calls got) where
+  pub shared-slot-gets-alone : Alone (replicate (length book) 0) calls got
+  shared-slot-gets-alone = shared-gets-alone book _ (sym (length-replicate (length book) 0)) calls got shared
 
   -- and the only one: two customers who share a slot get what each would get alone.
-  pub shared-slot-as-alone : (others : List Reply) → Alone (replicate (length book) 0) calls others → replies ≡ others
-  shared-slot-as-alone others = alone-determined _ calls replies others shared-slot-gets-alone
+  pub shared-slot-as-alone : (others : Answers calls) → Alone (replicate (length book) 0) calls others → got ≡ others
+  shared-slot-as-alone others = alone-determined _ calls got others shared-slot-gets-alone
 
--- Every state has a reply, and every call with a book has one too and leaves some book.
-pub record HasReply (number millikelvin pascals : ℕ) : Type 0 where
-  pub reply : Reply
-  pub replies : Replies number millikelvin pascals (figuresOf reply)
+-- Every state has a reply, for each side too, and every call with a book has one and leaves some book.
+module _ (number millikelvin pascals : ℕ) where
+  pub every-state-has-a-reply : (reply : Reply) × Replies number millikelvin pascals (figuresOf reply)
+  every-state-has-a-reply = told number millikelvin pascals [] (call-decided Whole number millikelvin pascals)
 
-pub every-state-has-a-reply : (number millikelvin pascals : ℕ) → HasReply number millikelvin pascals
-every-state-has-a-reply number millikelvin pascals =
-    let found = told number millikelvin pascals [] (state-decided number millikelvin pascals) in
-    record { reply = found .0; replies = found .1 }
+  pub every-side-has-a-reply : (side : ℕ) → (reply : SideReply) × RepliesForSide number millikelvin pascals side (sideFiguresOf reply)
+  every-side-has-a-reply side =
+      let whole = told number millikelvin pascals (formChecks (Side side)) (call-decided (Side side) number millikelvin pascals) in
+      let shown = side-shown side (whole .0) in
+      (shown .0, record { whole = figuresOf (whole .0); replies = whole .1; is-told = shown .1 })
 
-pub every-call-has-a-reply : (call : Call) (book : List ℕ) → (reply : Reply) × Gets call book reply
+pub every-call-has-a-reply : (call : Call) (book : List ℕ) → (answer : AnswerTo (call .form)) × Gets call book answer
 every-call-has-a-reply call book =
-    let found = told (call .fluid) (call .millikelvin) (call .pascals) (slotChecks (call .slot) (length book)) (slot-decided _ _ _ (call .slot) (length book)) in
-    (found .0, record { after = bookAfter book (call .slot) (figuresOf (found .0)); called = record { replies = found .1; leaves = refl } })
+    let decided = call-with-book-decided (call .form) (call .fluid) (call .millikelvin) (call .pascals) (call .slot) (length book) in
+    let whole = told (call .fluid) (call .millikelvin) (call .pascals) (formChecks (call .form) ++ slotChecks (call .slot) (length book)) decided in
+    let answer = shown (call .form) (whole .0) in (
+      answer .0,
+      record {
+        figures = figuresOf (whole .0);
+        after = bookAfter book (call .slot) (figuresOf (whole .0));
+        called = record { replies = whole .1; leaves = refl };
+        shows = answer .1;
+      },
+    )

@@ -1,15 +1,14 @@
 -- What the private functions ask and promise. Nothing public is stated by this file.
 use mathlib.Core.Path.{_≡_}
-use mathlib.Core.Bool.{Bool, true, false}
-use mathlib.Core.List.{List}
-use Prim.Native.Nat.{ℕ, _≤_}
-use lib.ListN.{length, set}
+use Prim.Native.Nat.{ℕ}
 use Rattle.cubic.specs.Cubic.{Kind, IsKind}
 use Rattle.fluid.specs.declared.choice.Fluid.{Fluid}
 use Rattle.densities.specs.Densities.{density}
 use Rattle.densities.specs.Promise.{Weighable}
 use Rattle.replies.specs.declared.Figures.{Figures}
+use Rattle.replies.specs.declared.sides.SideFigures.{SideFigures}
 use Rattle.replies.specs.Figures.{answeredWith}
+use Rattle.replies.specs.Sides.{figuresFor}
 
 pub record Weighty (millikelvin pascals gas dense : ℕ) : Type 0 where
   pub gas-fits : Weighable millikelvin pascals gas
@@ -21,7 +20,8 @@ pub record Reported (fluid : Fluid) (millikelvin pascals gas dense : ℕ) (figur
   pub is-kind : IsKind gas dense kind
   pub is-figures : figures ≡ answeredWith kind gas dense (density fluid millikelvin pascals gas) (density fluid millikelvin pascals dense)
 
--- what became of the book, by whether it has the slot
-abbrev pub Leaves : (before : List ℕ) (slot gas : ℕ) (after : List ℕ) → Bool → Type 0
-Leaves before slot gas after true = (length before ≡ 64) × (slot ≤ 63) × (after ≡ set before slot gas)
-Leaves before slot gas after false = (length before ≡ 64 → slot ≤ 63 → ⊥) × (after ≡ before)
+-- the figures are those for a side of a whole report
+pub record ReportedForSide (fluid : Fluid) (millikelvin pascals side gas dense : ℕ) (told : SideFigures) : Type 0 where
+  pub whole : Figures
+  pub reported : Reported fluid millikelvin pascals gas dense whole
+  pub is-told : told ≡ figuresFor side whole

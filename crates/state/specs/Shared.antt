@@ -1,31 +1,50 @@
--- Calls made one after another on one book, and the same calls made each alone.
+-- Calls of both forms made one after another on one book, and the same calls made each alone.
+use mathlib.Core.Path.{_≡_}
 use mathlib.Core.List.{List, [], _∷_}
 use Prim.Native.Nat.{ℕ}
+use Rattle.calls.specs.declared.Form.{Form}
+use Rattle.calls.specs.declared.Form.the-variants.{Whole, Side}
 use Rattle.replies.specs.declared.Reply.{Reply}
+use Rattle.replies.specs.declared.sides.SideReply.{SideReply}
+use Rattle.replies.specs.declared.Figures.{Figures}
 use Rattle.replies.specs.Figures.{figuresOf}
-use Rattle.state.specs.Book.{Called}
+use Rattle.replies.specs.Sides.{figuresFor, sideFiguresOf}
+use Rattle.state.specs.Book.{CalledAs}
 
 pub record Call : Type 0 where
   pub fluid : ℕ
   pub millikelvin : ℕ
   pub pascals : ℕ
+  pub form : Form
   pub slot : ℕ
 
--- a call on a book gets a reply, and leaves some book
-pub record Gets (call : Call) (book : List ℕ) (reply : Reply) : Type 0 where
+-- what comes back of a call, by its form: all figures of a reply, or those for a side
+abbrev pub AnswerTo : Form → Type 0
+AnswerTo Whole = Reply
+AnswerTo (Side side) = SideReply
+
+abbrev pub Shows : (form : Form) → AnswerTo form → Figures → Type 0
+Shows Whole reply figures = figuresOf reply ≡ figures
+Shows (Side side) reply figures = sideFiguresOf reply ≡ figuresFor side figures
+
+-- a call on a book gets an answer, and leaves some book
+pub record Gets (call : Call) (book : List ℕ) (answer : AnswerTo (call .form)) : Type 0 where
+  pub figures : Figures
   pub after : List ℕ
-  pub called : Called (call .fluid) (call .millikelvin) (call .pascals) (call .slot) book (figuresOf reply) after
+  pub called : CalledAs (call .form) (call .fluid) (call .millikelvin) (call .pascals) (call .slot) book figures after
+  pub shows : Shows (call .form) answer figures
+
+-- an answer to each call
+abbrev pub Answers : List Call → Type 0
+Answers [] = Unit {0}
+Answers (call ∷ calls) = AnswerTo (call .form) × Answers calls
 
 -- each call finds the book as the one before it left it
-abbrev pub Shared : (book : List ℕ) → List Call → List Reply → Type 0
-Shared book [] [] = Unit {0}
-Shared book [] (reply ∷ replies) = ⊥
-Shared book (call ∷ calls) [] = ⊥
-Shared book (call ∷ calls) (reply ∷ replies) = (gets : Gets call book reply) × Shared (gets .after) calls replies
+abbrev pub Shared : (book : List ℕ) (calls : List Call) → Answers calls → Type 0
+Shared book [] answers = Unit {0}
+Shared book (call ∷ calls) answers = (gets : Gets call book (answers .0)) × Shared (gets .after) calls (answers .1)
 
 -- each call finds the book as given
-abbrev pub Alone : (book : List ℕ) → List Call → List Reply → Type 0
-Alone book [] [] = Unit {0}
-Alone book [] (reply ∷ replies) = ⊥
-Alone book (call ∷ calls) [] = ⊥
-Alone book (call ∷ calls) (reply ∷ replies) = Gets call book reply × Alone book calls replies
+abbrev pub Alone : (book : List ℕ) (calls : List Call) → Answers calls → Type 0
+Alone book [] answers = Unit {0}
+Alone book (call ∷ calls) answers = Gets call book (answers .0) × Alone book calls (answers .1)

@@ -1,12 +1,16 @@
-// The answer to an accepted state: its two roots, their kind, and a density for each.
+// The answer to an accepted state: its two roots, their kind, and a density for each; or one of the roots and
+// its density.
 ghost use mathlib.Core.Path.{_≡_};
 ghost use Rattle.densities.specs.Promise.{Weighable};
 ghost use Rattle.densities.specs.Densities.{density};
 ghost use Rattle.replies.specs.Figures.{figuresOf};
-ghost use Rattle.state.specs.Inside.{Weighty, Reported};
+ghost use Rattle.replies.specs.Sides.{forSide, sideFiguresOf};
+ghost use Rattle.state.specs.Inside.{Weighty, Reported, ReportedForSide};
 use densities::Density;
 use fluid::Fluid;
+use replies::GAS;
 use replies::Reply;
+use replies::SideReply;
 
 // The roots of an accepted state are within a density's bounds, so the last arm is never met.
 fn grams(fluid: Fluid, millikelvin: u64, pascals: u64, root: u64) -> u64
@@ -36,4 +40,31 @@ pub(crate) fn answer(fluid: Fluid, millikelvin: u64, pascals: u64, gas: u64, den
         gas_density,
         dense_density: grams(fluid, millikelvin, pascals, dense),
     }
+}
+
+// A side that is neither never comes here.
+fn root_for(side: u64, gas: u64, dense: u64) -> u64
+    ensures { λ r. ⌜ r ≡ forSide side gas dense ⌝ }
+{
+    if side == GAS {
+        return gas;
+    }
+    dense
+}
+
+// One density is worked out, that of the side's own root.
+pub(crate) fn answer_side(
+    fluid: Fluid,
+    millikelvin: u64,
+    pascals: u64,
+    side: u64,
+    gas: u64,
+    dense: u64,
+) -> SideReply
+    requires { ⌜ Weighty millikelvin pascals gas dense ⌝ }
+    ensures { λ r. ⌜ ReportedForSide fluid millikelvin pascals side gas dense (sideFiguresOf r) ⌝ }
+{
+    let root = root_for(side, gas, dense);
+    let density = grams(fluid, millikelvin, pascals, root);
+    SideReply::Answered { root, density }
 }

@@ -1,22 +1,22 @@
 // The reply to a state (document 01): a fluid's number, a temperature in millikelvin and a pressure in
-// pascals, each any 64-bit number at all, with a book of starting points or without one.
+// pascals, each any 64-bit number at all, with a book of starting points or without one. A caller gets the
+// whole reply, or names a side and gets what the whole reply has for it (document 02, C-18).
 mod answers;
 
-ghost use Prim.Native.Nat.{_<_};
-ghost use Rattle.state.specs.Book.{Called};
-ghost use Rattle.state.specs.Inside.{Leaves};
 ghost use Rattle.replies.specs.Figures.{figuresOf};
-ghost use Rattle.state.specs.Replies.{Replies};
+ghost use Rattle.replies.specs.Sides.{sideFiguresOf};
+ghost use Rattle.state.specs.Replies.{Replies, RepliesForSide};
+ghost use Rattle.state.specs.Book.{Called, CalledForSide};
 use crate::answers::answer;
-use refusals::Refusal;
+use crate::answers::answer_side;
+use calls::Form;
+pub use replies::DENSE;
 pub use replies::Figures;
+pub use replies::GAS;
 pub use replies::Reply;
+pub use replies::SideFigures;
+pub use replies::SideReply;
 use roots::Finding;
-
-// A book has one number a slot.
-const SLOTS: usize = 64;
-
-const LAST_SLOT: u64 = 63;
 
 // Without a book: the search begins with no starting point.
 pub fn ask(fluid: u64, millikelvin: u64, pascals: u64) -> Reply
@@ -28,34 +28,7 @@ pub fn ask(fluid: u64, millikelvin: u64, pascals: u64) -> Reply
     }
 }
 
-// What the book holds at the slot, and 0 where it ends before that. It promises nothing, as no reply
-// depends on it.
-fn start_in(book: &[u32], slot: u64) -> u64 {
-    let at = slot as usize;
-    if at < book.len() {
-        return book[at] as u64;
-    }
-    0
-}
-
-// Whether the book has the slot: if so the gas root is in it, and if not nothing is written.
-fn leave(book: &mut [u32], slot: u64, gas: u64) -> bool
-    requires { ⌜ gas < 4294967296 ⌝ }
-    ensures { λ r. ⌜ Leaves (now (book .entry)) slot gas (now (book .exit)) r ⌝ }
-{
-    if book.len() != SLOTS {
-        return false;
-    }
-    if LAST_SLOT < slot {
-        return false;
-    }
-    book[slot as usize] = gas as u32;
-    true
-}
-
-// With a book: the search may begin at what the slot holds, and leaves the gas root there. The number in
-// the slot is a place to look first and changes no reply. A slot that there is not is told last, after
-// every earlier refusal.
+// With a book: what its slot holds changes no reply, and an answered call leaves the gas root there.
 pub fn ask_with_book(
     fluid: u64,
     millikelvin: u64,
@@ -65,14 +38,39 @@ pub fn ask_with_book(
 ) -> Reply
     ensures { λ r. ⌜ Called fluid millikelvin pascals slot (now (book .entry)) (figuresOf r) (now (book .exit)) ⌝ }
 {
-    let start = start_in(book, slot);
-    match roots::find(fluid, millikelvin, pascals, start) {
-        Finding::Refused(earlier) => Reply::Refused(earlier),
+    match calls::find_with_book(fluid, millikelvin, pascals, Form::Whole, slot, book) {
+        Finding::Refused(refusal) => Reply::Refused(refusal),
+        Finding::Roots { fluid, gas, dense } => answer(fluid, millikelvin, pascals, gas, dense),
+    }
+}
+
+// For one side, without a book.
+pub fn ask_side(fluid: u64, millikelvin: u64, pascals: u64, side: u64) -> SideReply
+    ensures { λ r. ⌜ RepliesForSide fluid millikelvin pascals side (sideFiguresOf r) ⌝ }
+{
+    match calls::find(fluid, millikelvin, pascals, Form::Side(side), 0) {
+        Finding::Refused(refusal) => SideReply::Refused(refusal),
         Finding::Roots { fluid, gas, dense } => {
-            if leave(book, slot, gas) {
-                return answer(fluid, millikelvin, pascals, gas, dense);
-            }
-            Reply::Refused(Refusal::NoSuchSlot)
+            answer_side(fluid, millikelvin, pascals, side, gas, dense)
+        }
+    }
+}
+
+// For one side, with a book.
+pub fn ask_side_with_book(
+    fluid: u64,
+    millikelvin: u64,
+    pascals: u64,
+    side: u64,
+    slot: u64,
+    book: &mut [u32],
+) -> SideReply
+    ensures { λ r. ⌜ CalledForSide fluid millikelvin pascals side slot (now (book .entry)) (sideFiguresOf r) (now (book .exit)) ⌝ }
+{
+    match calls::find_with_book(fluid, millikelvin, pascals, Form::Side(side), slot, book) {
+        Finding::Refused(refusal) => SideReply::Refused(refusal),
+        Finding::Roots { fluid, gas, dense } => {
+            answer_side(fluid, millikelvin, pascals, side, gas, dense)
         }
     }
 }

@@ -1,14 +1,13 @@
 -- Laws of texts put into a buffer, one behind another. Assumes nothing.
 use mathlib.Core.Path.{_≡_, refl, sym, ap, subst, _∙_}
 use mathlib.Core.List.{List, _++_, append-assoc}
-use Prim.Native.Nat.{ℕ, _+_, _≤_, _<_}
+use Prim.Native.Nat.{ℕ, _+_, _≤_}
 use native.Mathlib.Omega.{arith}
 use lib.ListN.{length, take, length-append}
-use borrow.Author.Tests.{le-leb, lt-leb}
 use lib.Seq.{length-take-le, take-length, take-append-add, take-append-seam}
 use Rattle.texts.specs.declared.Text.{Text}
 use Rattle.texts.specs.Texts.{Exactly, Then}
-use Rattle.texts.specs.Buffer.{longestWord, longestLine, Puts, bytesOf, Written, Fitted}
+use Rattle.texts.specs.Buffer.{Puts, bytesOf, Written}
 
 -- a text copied to the start of a part of the buffer, before what was kept of that part and what lies behind it
 pub puts-copied : (before text part kept post : List ℕ) (at copied : ℕ) → at ≤ length before → copied ≡ length text → part ≡ take (length text) text ++ kept → length (take at before ++ (part ++ post)) ≡ length before → Puts (Exactly text) (length text) before at (take at before ++ (part ++ post)) (at + copied)
@@ -61,21 +60,9 @@ module _ {before after : List ℕ} {at next : ℕ} where
   pub seen-as : {First Second : List ℕ → Type 0} {most : ℕ} → ((text : List ℕ) → First text → Second text) → Puts First most before at after next → Puts Second most before at after next
   seen-as same puts = retold same (omega arith) puts
 
-  pub wider : {Line : List ℕ → Type 0} {most more : ℕ} → most ≤ more → Puts Line most before at after next → Puts Line more before at after next
+  pub wider : {Kind : List ℕ → Type 0} {most more : ℕ} → most ≤ more → Puts Kind most before at after next → Puts Kind more before at after next
   wider fewer puts = retold (λ text is-text. is-text) fewer puts
 
 -- what a text holds, put into a buffer, is such a line
-pub puts-written : {Line : List ℕ → Type 0} {text : Text} {most : ℕ} {before : List ℕ} {at : ℕ} {after : List ℕ} {next : ℕ} → Written Line text → Puts (Exactly (bytesOf text)) most before at after next → Puts Line most before at after next
-puts-written {Line} written puts = seen-as (λ line same. subst Line (sym same) (written .is-line)) puts
-
--- a line put at the start of a buffer is written there
-module _ (word : List ℕ) (Line : List ℕ → Type 0) where
-  pub fitted : {before after : List ℕ} {most next : ℕ} → length word ≤ longestWord → most ≤ longestLine → longestLine ≤ length before → Puts Line most before 0 after next → Written (Fitted word Line) (record { bytes = after; length = next })
-  fitted few fits large puts =
-      record {
-        sized = record { inside = omega (arith, puts .short, puts .reaches, puts .same-length); short = omega (arith, puts .short, puts .reaches) };
-        is-line = rw (le-leb (length word) longestWord few) (subst Line (sym (puts .stands)) (puts .is-text));
-      }
-
-  pub unfitted : {bytes : List ℕ} → longestWord < length word → Written (Fitted word Line) (record { bytes = bytes; length = 0 })
-  unfitted many = record { sized = record { inside = omega arith; short = omega arith }; is-line = rw (lt-leb (length word) longestWord many) refl }
+pub puts-written : {Kind : List ℕ → Type 0} {text : Text} {most : ℕ} {before : List ℕ} {at : ℕ} {after : List ℕ} {next : ℕ} → Written Kind text → Puts (Exactly (bytesOf text)) most before at after next → Puts Kind most before at after next
+puts-written {Kind} written puts = seen-as (λ line same. subst Kind (sym same) (written .is-line)) puts

@@ -9,8 +9,8 @@ use lib.ListN.{length}
 use Rattle.io.specs.Digits.{digits}
 use Rattle.sheets.specs.Grammar.{space, lineEnd}
 use Rattle.texts.specs.declared.Text.{Text}
-use Rattle.texts.specs.Texts.{Digits, Exactly, Then, Spaced, LastNumber, OneNumber, TwoNumbers}
-use Rattle.texts.specs.Buffer.{longestWord, bytesOf, Written, Fitted}
+use Rattle.texts.specs.Texts.{Digits, Exactly, Then, Spaced, Numbers, Line}
+use Rattle.texts.specs.Buffer.{longestWord, mostNumbers, bytesOf, Written, Fitted}
 use Rattle.texts.proofs.Digits.{no-more-digits}
 
 digits-once : (number : ℕ) (text text′ : List ℕ) → Digits number text → Digits number text′ → text ≡ text′
@@ -39,22 +39,16 @@ either-once false text-once other-once = other-once
 spaced-once : (number : ℕ) → Once (Spaced number)
 spaced-once number = then-once (exactly-once (space ∷ [])) (digits-once number)
 
-last-once : (number : ℕ) → Once (LastNumber number)
-last-once number = then-once (spaced-once number) (exactly-once (lineEnd ∷ []))
+numbers-once : (numbers : List ℕ) → Once (Numbers numbers)
+numbers-once [] = exactly-once []
+numbers-once (number ∷ numbers) = then-once (spaced-once number) (numbers-once numbers)
 
-pub two-once : (word : List ℕ) (first second : ℕ) → Once (TwoNumbers word first second)
-two-once word first second = then-once (then-once (exactly-once word) (spaced-once first)) (last-once second)
-
-pub one-once : (word : List ℕ) (number : ℕ) → Once (OneNumber word number)
-one-once word number = then-once (exactly-once word) (last-once number)
+pub line-once : (word numbers : List ℕ) → Once (Line word numbers)
+line-once word numbers = then-once (exactly-once word) (then-once (numbers-once numbers) (exactly-once (lineEnd ∷ [])))
 
 -- What a text holds is fixed.
-fitted-once : {Line : List ℕ → Type 0} (word : List ℕ) → Once Line → (text text′ : Text) → Written (Fitted word Line) text → Written (Fitted word Line) text′ → bytesOf text ≡ bytesOf text′
-fitted-once word once text text′ one other =
-    either-once (leb (length word) longestWord) once (exactly-once []) (bytesOf text) (bytesOf text′) (one .is-line) (other .is-line)
-
-pub one-number-determined : (word : List ℕ) (number : ℕ) (text text′ : Text) → Written (Fitted word (OneNumber word number)) text → Written (Fitted word (OneNumber word number)) text′ → bytesOf text ≡ bytesOf text′
-one-number-determined word number = fitted-once word (one-once word number)
-
-pub two-numbers-determined : (word : List ℕ) (first second : ℕ) (text text′ : Text) → Written (Fitted word (TwoNumbers word first second)) text → Written (Fitted word (TwoNumbers word first second)) text′ → bytesOf text ≡ bytesOf text′
-two-numbers-determined word first second = fitted-once word (two-once word first second)
+pub line-determined : (word numbers : List ℕ) (text text′ : Text) → Written (Fitted word numbers) text → Written (Fitted word numbers) text′ → bytesOf text ≡ bytesOf text′
+line-determined word numbers text text′ one other =
+    let nothing-once = exactly-once [] in
+    either-once (leb (length word) longestWord) (either-once (leb (length numbers) mostNumbers) (line-once word numbers) nothing-once) nothing-once
+    (bytesOf text) (bytesOf text′) (one .is-line) (other .is-line)

@@ -2,22 +2,32 @@
 use mathlib.Core.Path.{_≡_}
 use mathlib.Core.Bool.{cond}
 use mathlib.Core.List.{List, [], _++_}
-use Prim.Native.Nat.{ℕ, _+_, _≤_}
+use Prim.Native.Nat.{ℕ, _+_, _*_, _≤_}
 use lib.Dec.{leb}
 use lib.ListN.{length, take}
 use Rattle.texts.specs.declared.Text.{Text}
+use Rattle.texts.specs.Texts.{Line}
 
+-- that of SPLIT and of SHEET
 abbrev pub longestWord : ℕ
 longestWord = 5
 
--- the longest word, two spaces, two numbers of 64 bits and the line's end
+-- a root and a density of either side (document 02, C-18)
+abbrev pub mostNumbers : ℕ
+mostNumbers = 4
+
+-- of a number of 64 bits
+abbrev pub mostDigits : ℕ
+mostDigits = 20
+
+-- a word, numbers with a space before each, and the line's end
 abbrev pub longestLine : ℕ
-longestLine = 48
+longestLine = longestWord + mostNumbers * (1 + mostDigits) + 1
 
 -- a text of this kind, of no more bytes than allowed, stands in the buffer behind what was there up to a place, and ends at the next
-pub record Puts (Line : List ℕ → Type 0) (most : ℕ) (before : List ℕ) (at : ℕ) (after : List ℕ) (next : ℕ) : Type 0 where
+pub record Puts (Kind : List ℕ → Type 0) (most : ℕ) (before : List ℕ) (at : ℕ) (after : List ℕ) (next : ℕ) : Type 0 where
   pub text : List ℕ
-  pub is-text : Line text
+  pub is-text : Kind text
   pub short : length text ≤ most
   pub reaches : next ≡ at + length text
   pub stands : take next after ≡ take at before ++ text
@@ -31,11 +41,12 @@ pub record Sized (text : Text) : Type 0 where
   pub inside : text .length ≤ length (text .bytes)
   pub short : text .length ≤ longestLine
 
--- the line that a text holds
-pub record Written (Line : List ℕ → Type 0) (text : Text) : Type 0 where
+-- a text that holds a line of this kind
+pub record Written (Kind : List ℕ → Type 0) (text : Text) : Type 0 where
   pub sized : Sized text
-  pub is-line : Line (bytesOf text)
+  pub is-line : Kind (bytesOf text)
 
--- a line that begins with a word; a longer word than there is room for gives an empty one
-abbrev pub Fitted : (word : List ℕ) (Line : List ℕ → Type 0) → (text : List ℕ) → Type 0
-Fitted word Line text = cond (leb (length word) longestWord) (Line text) (text ≡ [])
+-- the line of a word and numbers; a longer word, or more numbers, than there is room for give an empty one
+abbrev pub Fitted : (word numbers : List ℕ) → (text : List ℕ) → Type 0
+Fitted word numbers text =
+    cond (leb (length word) longestWord) (cond (leb (length numbers) mostNumbers) (Line word numbers text) (text ≡ [])) (text ≡ [])

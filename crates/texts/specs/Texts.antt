@@ -25,14 +25,11 @@ pub record Then (First Second : List ℕ → Type 0) (text : List ℕ) : Type 0 
 abbrev pub Spaced : (number : ℕ) → (text : List ℕ) → Type 0
 Spaced number = Then (Exactly (space ∷ [])) (Digits number)
 
--- the last number of a line, before the line's end
-abbrev pub LastNumber : (number : ℕ) → (text : List ℕ) → Type 0
-LastNumber number = Then (Spaced number) (Exactly (lineEnd ∷ []))
+-- each number behind a space, in their order
+abbrev pub Numbers : (numbers : List ℕ) → (text : List ℕ) → Type 0
+Numbers [] = Exactly []
+Numbers (number ∷ numbers) = Then (Spaced number) (Numbers numbers)
 
--- a word and a number
-abbrev pub OneNumber : (word : List ℕ) (number : ℕ) → (text : List ℕ) → Type 0
-OneNumber word number = Then (Exactly word) (LastNumber number)
-
--- a word and two numbers
-abbrev pub TwoNumbers : (word : List ℕ) (first second : ℕ) → (text : List ℕ) → Type 0
-TwoNumbers word first second = Then (Then (Exactly word) (Spaced first)) (LastNumber second)
+-- a word, numbers and the line's end
+abbrev pub Line : (word numbers : List ℕ) → (text : List ℕ) → Type 0
+Line word numbers = Then (Exactly word) (Then (Numbers numbers) (Exactly (lineEnd ∷ [])))

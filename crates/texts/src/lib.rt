@@ -1,18 +1,28 @@
-// A line of output (document 01, "State sheets"): a word and one or two numbers, single spaces between and
-// byte 10 after. It is gathered in one buffer: each private function puts some of it at a place, and
+// A line of output (document 01, "State sheets"): a word and numbers, a single space before each number and
+// byte 10 after the last. It is gathered in one buffer: each private function puts some of it at a place, and
 // answers the place behind it.
-ghost use Prim.Native.Nat.{_+_, _≤_};
+ghost use Prim.Native.Nat.{_+_, _*_, _≤_};
 ghost use lib.ListN.{length};
-ghost use Rattle.texts.specs.Texts.{Exactly, Digits, Spaced, LastNumber, OneNumber, TwoNumbers};
-ghost use Rattle.texts.specs.Buffer.{Puts, Written, Fitted};
+ghost use Rattle.texts.specs.Texts.{Exactly, Digits, Spaced, Numbers};
+ghost use Rattle.texts.specs.Buffer.{mostDigits, Puts, Written, Fitted};
+
+// SPLIT and SHEET are the longest words.
+const LONGEST_WORD: usize = 5;
+
+// A SPLIT line has a root and a density of either side (document 02, C-18).
+const MOST_NUMBERS: usize = 4;
+
+// A number of 64 bits has at most 20 digits.
+const MOST_DIGITS: usize = 20;
+
+// A word, numbers with a space before each, and the line's end.
+pub const LONGEST_LINE: usize = LONGEST_WORD + MOST_NUMBERS * (1 + MOST_DIGITS) + 1;
 
 // The line is the first bytes, as many as the length says. What lies behind them is not told.
 pub struct Text {
-    pub bytes: [u8; 48],
+    pub bytes: [u8; LONGEST_LINE],
     pub length: usize,
 }
-
-const LONGEST_WORD: usize = 5;
 
 fn put(buffer: &mut [u8], at: usize, text: &[u8]) -> usize
     requires { ⌜ at + length (now text) ≤ length (now buffer) ⌝ }
@@ -22,55 +32,48 @@ fn put(buffer: &mut [u8], at: usize, text: &[u8]) -> usize
     at + copied
 }
 
-// A number of 64 bits has at most 20 digits.
 fn put_number(buffer: &mut [u8], at: usize, number: u64) -> usize
-    requires { ⌜ at + 20 ≤ length (now buffer) ⌝ }
-    ensures { λ r. ⌜ Puts (Digits number) 20 (now (buffer .entry)) at (now (buffer .exit)) r ⌝ }
+    requires { ⌜ at + mostDigits ≤ length (now buffer) ⌝ }
+    ensures { λ r. ⌜ Puts (Digits number) mostDigits (now (buffer .entry)) at (now (buffer .exit)) r ⌝ }
 {
-    let mut digits = [0u8; 20];
+    let mut digits = [0u8; MOST_DIGITS];
     let count = io::decimal(number, &mut digits);
     put(buffer, at, &digits[..count])
 }
 
 fn put_spaced(buffer: &mut [u8], at: usize, number: u64) -> usize
-    requires { ⌜ at + 21 ≤ length (now buffer) ⌝ }
-    ensures { λ r. ⌜ Puts (Spaced number) 21 (now (buffer .entry)) at (now (buffer .exit)) r ⌝ }
+    requires { ⌜ at + (1 + mostDigits) ≤ length (now buffer) ⌝ }
+    ensures { λ r. ⌜ Puts (Spaced number) (1 + mostDigits) (now (buffer .entry)) at (now (buffer .exit)) r ⌝ }
 {
     let digits = put(buffer, at, b" ");
     put_number(buffer, digits, number)
 }
 
-fn put_last_number(buffer: &mut [u8], at: usize, number: u64) -> usize
-    requires { ⌜ at + 22 ≤ length (now buffer) ⌝ }
-    ensures { λ r. ⌜ Puts (LastNumber number) 22 (now (buffer .entry)) at (now (buffer .exit)) r ⌝ }
+fn put_numbers(buffer: &mut [u8], at: usize, numbers: &[u64]) -> usize
+    requires { ⌜ at + length (now numbers) * (1 + mostDigits) ≤ length (now buffer) ⌝ }
+    ensures { λ r. ⌜ Puts (Numbers (now (numbers .entry))) (length (now (numbers .entry)) * (1 + mostDigits)) (now (buffer .entry)) at (now (buffer .exit)) r ⌝ }
 {
-    let end = put_spaced(buffer, at, number);
-    put(buffer, end, b"\n")
+    let mut end = at;
+    for taken in 0..numbers.len() {
+        end = put_spaced(buffer, end, numbers[taken]);
+    }
+    end
 }
 
-// A word and a number. A line has room for a word of five letters and two numbers.
-pub fn one_number(word: &[u8], number: u64) -> Text
-    ensures { λ r. ⌜ Written (Fitted (now (word .entry)) (OneNumber (now (word .entry)) number)) r ⌝ }
+// The word, the numbers in their order, and the line's end. A line has room for a word of five letters and four
+// numbers; with more than that it is empty.
+pub fn line(word: &[u8], numbers: &[u64]) -> Text
+    ensures { λ r. ⌜ Written (Fitted (now (word .entry)) (now (numbers .entry))) r ⌝ }
 {
-    let mut bytes = [0u8; 48];
+    let mut bytes = [0u8; LONGEST_LINE];
     if LONGEST_WORD < word.len() {
         return Text { bytes, length: 0 };
     }
-    let last = put(&mut bytes, 0, word);
-    let length = put_last_number(&mut bytes, last, number);
-    Text { bytes, length }
-}
-
-// A word and two numbers.
-pub fn two_numbers(word: &[u8], first: u64, second: u64) -> Text
-    ensures { λ r. ⌜ Written (Fitted (now (word .entry)) (TwoNumbers (now (word .entry)) first second)) r ⌝ }
-{
-    let mut bytes = [0u8; 48];
-    if LONGEST_WORD < word.len() {
+    if MOST_NUMBERS < numbers.len() {
         return Text { bytes, length: 0 };
     }
-    let numbers = put(&mut bytes, 0, word);
-    let last = put_spaced(&mut bytes, numbers, first);
-    let length = put_last_number(&mut bytes, last, second);
+    let word_end = put(&mut bytes, 0, word);
+    let numbers_end = put_numbers(&mut bytes, word_end, numbers);
+    let length = put(&mut bytes, numbers_end, b"\n");
     Text { bytes, length }
 }

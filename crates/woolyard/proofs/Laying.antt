@@ -7,6 +7,9 @@ use lib.ListN.{length}
 use Rattle.replies.specs.declared.Reply.{Reply}
 use Rattle.replies.specs.declared.Figures.{Figures}
 use Rattle.replies.specs.Figures.{figuresOf}
+use Rattle.replies.specs.declared.sides.SideReply.{SideReply}
+use Rattle.replies.specs.declared.sides.SideFigures.{SideFigures}
+use Rattle.replies.specs.Sides.{sideFiguresOf}
 use Rattle.heat.specs.declared.replies.HeatCapacity.{HeatCapacity}
 use Rattle.heat.specs.Replies.{comesBack, numberOf}
 use Rattle.heat.specs.Promise.{Answers}
@@ -18,11 +21,15 @@ use Rattle.readings.specs.Figures.{sheetFigures, lineFigures}
 use Rattle.readings.specs.Replies.{ReadsAs, LineReadsAs, shown, ShowsBack}
 use Rattle.readings.proofs.Theorems.{figures-determined}
 use Rattle.woolyard.specs.States.{fiveOf, Laid}
+use Rattle.woolyard.specs.Sides.{twoOf, SideLaid}
 use Rattle.woolyard.specs.Heats.{bitsAfter, HeatAnswers}
 use Rattle.woolyard.specs.Sheets.{readingOf, SheetAnswers, stateOf, LineAnswers}
 
 pub figures-laid : (reply : Reply) (told : Figures) → told ≡ figuresOf reply → Laid reply (told .number) (fiveOf told)
 figures-laid reply told is = record { is-number = ap (λ (f : Figures). f .number) is; is-figures = ap fiveOf is }
+
+pub side-laid : (reply : SideReply) (told : SideFigures) → told ≡ sideFiguresOf reply → SideLaid reply (told .number) (twoOf told)
+side-laid reply told is = record { is-number = ap (λ (f : SideFigures). f .number) is; is-figures = ap twoOf is }
 
 pub heat-laid : (kelvin : Float) (before number : ℕ) (reply found : HeatCapacity) → reply ≡ found → Answers kelvin (comesBack reply) → number ≡ numberOf reply → HeatAnswers kelvin before number (bitsAfter before found)
 heat-laid kelvin before number reply found is answers is-number =

@@ -7,8 +7,12 @@ use lib.Ieee.{Float}
 use lib.ListN.{length}
 use Rattle.replies.specs.declared.Reply.{Reply}
 use Rattle.replies.specs.Figures.{figuresOf}
-use Rattle.state.specs.Book.{Placed}
-use Rattle.replies.proofs.Theorems.{refused-carries-zeros}
+use Rattle.replies.specs.declared.sides.SideReply.{SideReply}
+use Rattle.replies.specs.declared.sides.SideFigures.{SideFigures}
+use Rattle.replies.specs.Sides.{sideFiguresOf}
+use Rattle.calls.specs.declared.Form.the-variants.{Whole, Side}
+use Rattle.calls.specs.Checks.{Placed}
+use Rattle.replies.proofs.Theorems.{refused-carries-zeros, refused-side-carries-zeros}
 use Rattle.state.proofs.Theorems as state
 use Rattle.heat.specs.Replies.{numberOf}
 use Rattle.heat.proofs.Theorems as heat
@@ -18,10 +22,11 @@ use Rattle.readings.specs.Figures.{sheetFigures, lineFigures}
 use Rattle.readings.specs.Replies.{shown}
 use Rattle.readings.proofs.Theorems as replies
 use Rattle.woolyard.specs.States.{fiveOf, Laid, StateAnswers, BookAnswers}
+use Rattle.woolyard.specs.Sides.{twoOf, SideLaid, SideAnswers, SideBookAnswers}
 use Rattle.woolyard.specs.Heats.{bitsAfter, HeatAnswers}
 use Rattle.woolyard.specs.Sheets.{readingOf, SheetAnswers, stateOf, LineAnswers}
 
--- One law for the five calls: what two replies that are equal tell is equal.
+-- One law for all calls: what two replies that are equal tell is equal.
 told-alike : {Told Laid : Type 0} (number-of : Told → ℕ) (laid-of : Told → Laid) {reply other : Told} {number number′ : ℕ} {laid laid′ : Laid} → reply ≡ other → number ≡ number-of reply → number′ ≡ number-of other → laid ≡ laid-of reply → laid′ ≡ laid-of other → (number ≡ number′) × (laid ≡ laid′)
 told-alike number-of laid-of same is-number is-number′ is-laid is-laid′ =
     (is-number ∙ ap number-of same ∙ sym is-number′, is-laid ∙ ap laid-of same ∙ sym is-laid′)
@@ -40,12 +45,12 @@ module _ (fluid millikelvin pascals : ℕ) where
     -- any two books of one length get the same number and the same figures
     pub book-never-matters : (book other : List ℕ) → length book ≡ length other → {number number′ : ℕ} {figures figures′ after after′ : List ℕ} → BookAnswers fluid millikelvin pascals slot book number figures after → BookAnswers fluid millikelvin pascals slot other number′ figures′ after′ → (number ≡ number′) × (figures ≡ figures′)
     book-never-matters book other same p q =
-        same-laid (state.book-never-matters fluid millikelvin pascals slot book other same (p .called) (q .called)) (p .laid) (q .laid)
+        same-laid (state.same-on-any-book _ book other same (state.whole-gets (p .called)) (state.whole-gets (q .called))) (p .laid) (q .laid)
 
     -- and where the book has the slot, the call without a book gets them too
     pub same-without-book : {book after figures figures′ : List ℕ} {number number′ : ℕ} → Placed slot (length book) → BookAnswers fluid millikelvin pascals slot book number figures after → StateAnswers fluid millikelvin pascals number′ figures′ → (number ≡ number′) × (figures ≡ figures′)
     same-without-book placed p q =
-        same-laid (state.same-without-book fluid millikelvin pascals slot placed (p .called) (q .replies)) (p .laid) (q .laid)
+        same-laid (state.same-without-book fluid millikelvin pascals placed (p .called) (q .replies)) (p .laid) (q .laid)
 
     pub state-with-book-determined : (book : List ℕ) {number number′ : ℕ} {figures figures′ after after′ : List ℕ} → BookAnswers fluid millikelvin pascals slot book number figures after → BookAnswers fluid millikelvin pascals slot book number′ figures′ after′ → ((number ≡ number′) × (figures ≡ figures′)) × (after ≡ after′)
     state-with-book-determined book p q =
@@ -59,7 +64,36 @@ refused-lays-zeros {reply} laid refused =
 
 pub refused-changes-no-book : {fluid millikelvin pascals slot number : ℕ} {book figures after : List ℕ} → BookAnswers fluid millikelvin pascals slot book number figures after → (number ≡ 0 → ⊥) → after ≡ book
 refused-changes-no-book p refused =
-    state.refused-changes-nothing _ _ _ _ (λ answered. refused (p .laid .is-number ∙ answered)) (p .called)
+    state.refused-changes-nothing Whole _ _ _ _ (λ answered. refused (p .laid .is-number ∙ answered)) (p .called)
+
+-- ---- sides
+same-side-laid : {reply other : SideReply} {number number′ : ℕ} {figures figures′ : List ℕ} → reply ≡ other → SideLaid reply number figures → SideLaid other number′ figures′ → (number ≡ number′) × (figures ≡ figures′)
+same-side-laid same p q =
+    told-alike (λ (r : SideReply). sideFiguresOf r .number) (λ (r : SideReply). twoOf (sideFiguresOf r)) same (p .is-number) (q .is-number) (p .is-figures) (q .is-figures)
+
+module _ (fluid millikelvin pascals side : ℕ) where
+  pub side-determined : (number number′ : ℕ) (figures figures′ : List ℕ) → SideAnswers fluid millikelvin pascals side number figures → SideAnswers fluid millikelvin pascals side number′ figures′ → (number ≡ number′) × (figures ≡ figures′)
+  side-determined number number′ figures figures′ p q =
+      same-side-laid (state.side-determined fluid millikelvin pascals side (p .reply) (q .reply) (p .replies) (q .replies)) (p .laid) (q .laid)
+
+  module _ (slot : ℕ) where
+    pub book-never-matters-for-side : (book other : List ℕ) → length book ≡ length other → {number number′ : ℕ} {figures figures′ after after′ : List ℕ} → SideBookAnswers fluid millikelvin pascals side slot book number figures after → SideBookAnswers fluid millikelvin pascals side slot other number′ figures′ after′ → (number ≡ number′) × (figures ≡ figures′)
+    book-never-matters-for-side book other same p q =
+        same-side-laid (state.same-on-any-book _ book other same (state.side-gets (p .called)) (state.side-gets (q .called))) (p .laid) (q .laid)
+
+    pub side-with-book-determined : (book : List ℕ) {number number′ : ℕ} {figures figures′ after after′ : List ℕ} → SideBookAnswers fluid millikelvin pascals side slot book number figures after → SideBookAnswers fluid millikelvin pascals side slot book number′ figures′ after′ → ((number ≡ number′) × (figures ≡ figures′)) × (after ≡ after′)
+    side-with-book-determined book p q =
+        let same = state.side-call-determined fluid millikelvin pascals side slot book (p .called) (q .called) in
+        (same-side-laid (same .0) (p .laid) (q .laid), same .1)
+
+pub refused-side-lays-zeros : {reply : SideReply} {number : ℕ} {figures : List ℕ} → SideLaid reply number figures → (number ≡ 0 → ⊥) → figures ≡ 0 ∷ 0 ∷ []
+refused-side-lays-zeros {reply} laid refused =
+    laid .is-figures ∙ ap twoOf (refused-side-carries-zeros reply (λ answered. refused (laid .is-number ∙ answered)))
+
+pub refused-side-changes-no-book : {fluid millikelvin pascals side slot number : ℕ} {book figures after : List ℕ} → SideBookAnswers fluid millikelvin pascals side slot book number figures after → (number ≡ 0 → ⊥) → after ≡ book
+refused-side-changes-no-book {side = side} p refused =
+    state.refused-changes-nothing (Side side) _ _ _ _
+    (λ answered. refused (p .laid .is-number ∙ ap (λ (f : SideFigures). f .number) (p .called .is-told) ∙ answered)) (p .called .called)
 
 -- ---- the heat capacity
 pub heat-determined : (kelvin : Float) (before number number′ after after′ : ℕ) → HeatAnswers kelvin before number after → HeatAnswers kelvin before number′ after′ → (number ≡ number′) × (after ≡ after′)

@@ -1,4 +1,5 @@
 -- What a reader must believe of the boundary: which of a reply's figures lie where in what the caller lent.
 pub mod States
+pub mod Sides
 pub mod Heats
 pub mod Sheets

@@ -1,11 +1,13 @@
-// What the five functions lay before their caller, beyond what the libraries already tell.
+// What the functions lay before their caller, beyond what the libraries already tell.
 ghost use mathlib.Core.Path.{_≡_};
 ghost use lib.ListN.{length};
 ghost use Rattle.readings.specs.Figures.{sheetFigures};
 ghost use Rattle.readings.specs.Replies.{ReadsAs, shown};
 ghost use Rattle.woolyard.specs.States.{Laid};
+ghost use Rattle.woolyard.specs.Sides.{SideLaid};
 use readings::Reading;
 use state::Reply;
+use state::SideReply;
 
 // The paper's number of a reply. Its kind, its roots and its densities go to the caller's array.
 pub(crate) fn lay_figures(reply: Reply, figures: &mut [u64; 5]) -> u64
@@ -20,6 +22,15 @@ pub(crate) fn lay_figures(reply: Reply, figures: &mut [u64; 5]) -> u64
         told.dense_density,
     ];
     told.number
+}
+
+// The same of a side's reply: its root and its density.
+pub(crate) fn lay_side(reply: SideReply, figures: &mut [u64; 2]) -> u64
+    ensures { λ r. ⌜ SideLaid reply r (now (figures .exit)) ⌝ }
+{
+    let shown = reply.figures();
+    *figures = [shown.root, shown.density];
+    shown.number
 }
 
 // The faulty line is looked for only where there is one, so that a good sheet is read once.

@@ -1,13 +1,15 @@
-// The boundary to C, Rust and Python: the five functions of include/woolyard.h, each of which answers the
+// The boundary to C, Rust and Python: the functions of include/woolyard.h, each of which answers the
 // paper's number and lays what goes with it where its caller said. C passes a slice as a pointer and then
 // a length, and an array or a number to write as a pointer.
 mod layout;
 
 ghost use Rattle.woolyard.specs.States.{StateAnswers, BookAnswers};
+ghost use Rattle.woolyard.specs.Sides.{SideAnswers, SideBookAnswers};
 ghost use Rattle.woolyard.specs.Heats.{HeatAnswers};
 ghost use Rattle.woolyard.specs.Sheets.{SheetAnswers, LineAnswers};
 use crate::layout::faulty_line_length;
 use crate::layout::lay_figures;
+use crate::layout::lay_side;
 use heat::HeatCapacity;
 
 // The reply to a state: the array gets its kind, its two roots and their densities.
@@ -38,6 +40,38 @@ pub extern "C" fn woolyard_state_with_book(
 {
     let reply = state::ask_with_book(fluid, millikelvin, pascals, slot, book);
     lay_figures(reply, figures)
+}
+
+// One side of the reply to a state: the array gets its root and its density.
+#[no_mangle]
+pub extern "C" fn woolyard_side(
+    fluid: u64,
+    millikelvin: u64,
+    pascals: u64,
+    side: u64,
+    figures: &mut [u64; 2],
+) -> u64
+    ensures { λ r. ⌜ SideAnswers fluid millikelvin pascals side r (now (figures .exit)) ⌝ }
+{
+    let reply = state::ask_side(fluid, millikelvin, pascals, side);
+    lay_side(reply, figures)
+}
+
+// The same with a book, which gets the gas root in its slot, whichever side is asked for.
+#[no_mangle]
+pub extern "C" fn woolyard_side_with_book(
+    fluid: u64,
+    millikelvin: u64,
+    pascals: u64,
+    side: u64,
+    slot: u64,
+    book: &mut [u32],
+    figures: &mut [u64; 2],
+) -> u64
+    ensures { λ r. ⌜ SideBookAnswers fluid millikelvin pascals side slot (now (book .entry)) r (now (figures .exit)) (now (book .exit)) ⌝ }
+{
+    let reply = state::ask_side_with_book(fluid, millikelvin, pascals, side, slot, book);
+    lay_side(reply, figures)
 }
 
 // Hydrogen's ideal heat capacity. The caller's double is seen as its 64 bits: a refused temperature leaves

@@ -1,12 +1,12 @@
-// What is printed for a state line (document 01, "State sheets"): its kind, gas root and gas density, or NO and
-// the number of its refusal; and for a refused sheet: SHEET, the number and the place.
+// What is printed for a state line: its kind, gas root and gas density (document 01, "State sheets"), of a
+// state with two roots also the dense root and the dense density (document 02, C-18), or NO and the number
+// of its refusal; and for a refused sheet: SHEET, the number and the place.
 ghost use Rattle.texts.specs.Buffer.{Written};
 ghost use Rattle.wording.specs.Wording.{LineText, FaultText};
 use readings::Reading;
 use sheets::State;
 use texts::Text;
-use texts::one_number;
-use texts::two_numbers;
+use texts::line;
 
 // The kind of a state whose two roots are equal, among the figures of a reply.
 const ONE: u64 = 1;
@@ -18,13 +18,18 @@ pub fn state_text(state: State) -> Text
     let figures = reply.figures();
     let number = figures.number;
     let kind = figures.kind;
+    let gas_root = figures.gas_root;
+    let gas_density = figures.gas_density;
+    let dense_root = figures.dense_root;
+    let dense_density = figures.dense_density;
     if number != 0 {
-        return one_number(b"NO", number);
+        return line(b"NO", &[number]);
     }
     if kind == ONE {
-        return two_numbers(b"ONE", figures.gas_root, figures.gas_density);
+        return line(b"ONE", &[gas_root, gas_density]);
     }
-    two_numbers(b"SPLIT", figures.gas_root, figures.gas_density)
+    let both_sides = [gas_root, gas_density, dense_root, dense_density];
+    line(b"SPLIT", &both_sides)
 }
 
 pub fn fault_text(fault: Reading) -> Text
@@ -32,5 +37,5 @@ pub fn fault_text(fault: Reading) -> Text
 {
     let figures = fault.figures();
     let place = figures.place as u64;
-    two_numbers(b"SHEET", figures.number, place)
+    line(b"SHEET", &[figures.number, place])
 }

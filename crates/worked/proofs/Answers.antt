@@ -19,8 +19,8 @@ use Rattle.replies.specs.declared.Reply.{Reply}
 use Rattle.replies.specs.declared.Reply.the-variants.{One, Split, Refused}
 use Rattle.replies.specs.declared.Figures.{Figures}
 use Rattle.replies.specs.Figures.{answeredWith, figuresOf}
+use Rattle.calls.specs.Checks.{slotChecks, Placed}
 use Rattle.state.specs.Replies.{Answered}
-use Rattle.state.specs.Book.{slotChecks, Placed}
 use Rattle.worked.specs.Rows.{Span, ForEach, Replied, RightAnswer}
 use Rattle.worked.proofs.Tests.{Tested, by, _with_, never, equal, at-most, below}
 use Rattle.worked.proofs.Spans.{for-each, then-each}

@@ -10,7 +10,7 @@ use Rattle.fluid.specs.Figures.{numberOf, coldest, hottest, lowest, highest, Ac
 use Rattle.fluid.specs.Checks.{stateChecks}
 use Rattle.fluid.proofs.Accepting.{no-fluid, unknown-fluid, too-cold, too-hot, too-low, too-high, passes}
 use Rattle.replies.specs.Figures.{refusedWith}
-use Rattle.state.specs.Book.{slotChecks}
+use Rattle.calls.specs.Checks.{slotChecks}
 use Rattle.worked.specs.Rows.{Span, Replied, RightRefusal}
 use Rattle.worked.proofs.Tests.{Tested, by, _with_, _or_, equal, differ, at-most, below}
 use Rattle.worked.proofs.Spans.{for-each, at-each}

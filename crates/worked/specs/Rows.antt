@@ -11,7 +11,8 @@ use Rattle.fluid.specs.Reduced.{Reduces}
 use Rattle.replies.specs.declared.Reply.{Reply}
 use Rattle.replies.specs.declared.Figures.{Figures}
 use Rattle.replies.specs.Figures.{refusedWith, figuresOf}
-use Rattle.state.specs.Book.{RepliesWithBook}
+use Rattle.calls.specs.Checks.{slotChecks}
+use Rattle.state.specs.Replies.{Told}
 
 -- the pressures, or the slots, of which a row speaks
 pub data Span : Type 0 where
@@ -32,7 +33,7 @@ pub data Row : Type 0 where
 
 -- what a call with a book of 64 numbers tells, whatever they are; but for 4 a call without a book tells it too
 abbrev pub Replied : (number millikelvin pascals slot : ℕ) → Figures → Type 0
-Replied number millikelvin pascals slot = RepliesWithBook number millikelvin pascals slot 64
+Replied number millikelvin pascals slot = Told number millikelvin pascals (slotChecks slot 64)
 
 pub record RightAnswer (fluid : Fluid) (millikelvin pascals critical-millikelvin critical-pascals : ℕ) (reduced : Reduced) (slots : Span) (reply : Reply) : Type 0 where
   pub is-critical-millikelvin : critical-millikelvin ≡ criticalMillikelvin fluid millikelvin

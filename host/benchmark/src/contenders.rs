@@ -1,13 +1,13 @@
 //! Who is timed, on what, and that all of them answer alike.
 
-use crate::rounds::{interleaved, pass, Pass, Timing};
+use crate::rounds::{beside, interleaved, pass, timing, Pass, Timing};
 use crate::{peer, proved};
 use second::random::Random;
 use second::sheet::State;
 use second::state::reply;
 use std::hint::black_box;
-use woolyard::boundary::FIGURES;
-use woolyard::{Kind, BOOK_LENGTH};
+use woolyard::boundary::{FIGURES, SIDE_FIGURES};
+use woolyard::{Kind, Side, BOOK_LENGTH};
 
 /// The slot that every start is written into, just before the call.
 const SLOT: usize = 17;
@@ -57,40 +57,75 @@ fn assert_unchanged(states: &[State], starts: &[u32], gas_roots: &[u32]) {
     }
 }
 
-/// Nanoseconds per state of each contender.
+/// That each side alone is answered as in the whole call.
+fn assert_sides(states: &[State]) {
+    for state in states {
+        let whole = proved::answer(state);
+        for (side, expected) in [
+            (Side::Gas, [whole.gas_root, whole.gas_density]),
+            (Side::Dense, [whole.dense_root, whole.dense_density]),
+        ] {
+            let mut figures = [0; SIDE_FIGURES];
+            let number = proved::side(state, side, &mut figures);
+            assert_eq!((number, figures), (0, expected), "{state:?}, {side:?}");
+        }
+    }
+}
+
+/// Nanoseconds per state of each contender, and of either side beside the whole call, round by round.
 pub struct Timings {
     pub call: Timing,
+    pub gas_side: Timing,
+    pub dense_side: Timing,
     pub own_start: Timing,
     pub strangers_start: Timing,
     pub zeros: Timing,
     pub peer: Timing,
+    pub gas_beside_call: f64,
+    pub dense_beside_call: f64,
 }
 
 impl Timings {
     pub fn measure(states: &[State], starts: &Starts) -> Timings {
-        let [call, own_start, strangers_start, zeros, peer] = interleaved([
+        assert_sides(states);
+        let rounds = interleaved([
             calls(states, proved::state),
+            calls(states, |state, figures| {
+                proved::side(state, Side::Gas, figures)
+            }),
+            calls(states, |state, figures| {
+                proved::side(state, Side::Dense, figures)
+            }),
             with_book(states, &starts.own),
             with_book(states, &starts.strangers),
             with_book(states, &starts.zeros),
             calls(states, peer::state),
         ]);
+        let [of_call, of_gas_side, of_dense_side, ..] = &rounds;
+        let gas_beside_call = beside(of_gas_side, of_call);
+        let dense_beside_call = beside(of_dense_side, of_call);
+        let [call, gas_side, dense_side, own_start, strangers_start, zeros, peer] =
+            rounds.map(timing);
         Timings {
             call,
+            gas_side,
+            dense_side,
             own_start,
             strangers_start,
             zeros,
             peer,
+            gas_beside_call,
+            dense_beside_call,
         }
     }
 }
 
 /// Calls that write their figures, whole numbers or doubles.
-fn calls<'a, Figure: Copy + Default + 'a>(
+fn calls<'a, Figure: Copy + Default + 'a, const COUNT: usize>(
     states: &'a [State],
-    call: impl Fn(&State, &mut [Figure; FIGURES]) -> u64 + 'a,
+    call: impl Fn(&State, &mut [Figure; COUNT]) -> u64 + 'a,
 ) -> Pass<'a> {
-    let mut figures = [Figure::default(); FIGURES];
+    let mut figures = [Figure::default(); COUNT];
     Box::new(move || {
         pass(states, |state| {
             black_box(call(state, &mut figures));

@@ -57,15 +57,17 @@ doubles, with the cubic solver of the GNU Scientific Library (GSL).
         write!(
             out,
             "\
-- The five kinds of call answer all states in each of {rounds} rounds, one kind after another, so that
+- The seven kinds of call answer all states in each of {rounds} rounds, one kind after another, so that
   whatever else the machine does falls on all alike; {WARM_UP_ROUNDS} rounds before these aren't counted. A round's
   time divided by the number of states is its figure. The median round is the one that is judged.
 - The job in doubles, `host/benchmark/peer.c` by gcc with -O2, has the same questions, refusals, formulas
   and five figures, without the roundings to whole numbers.
+- A call for one side, gas or dense, answers the root and the density of that side and nothing else.
 - A book holds starting points, which change how long an answer takes and never what it is. One is
   written into the slot before each call: the state's own gas root, as where a state is asked again; a
   stranger's, which is that of another state, drawn at random; or zero.
-- Before the clock runs, every call with a book is checked to answer what the call without one does.
+- Before the clock runs, every call with a book is checked to answer what the call without one does, and
+  every call for a side what the whole call answers of it.
 - The plain scan is the second implementation's, which looks at every place of the grid. It answers
   {scanned} of the states once, and the proved call is checked to answer the same.
 "
@@ -112,9 +114,11 @@ fn write_about_bars(out: &mut Formatter) -> Result {
     write!(
         out,
         "
-The first three are of the median rounds, the last of user times. That last one says little: the second
-implementation scans the whole grid for each state, since it is to be plain and not quick, and almost
-any search beats that.
+A call for one side has less to work out than the whole call, by a density where there are two, so it may
+not take longer. As that is little, the two are compared round by round, and the median of the ratios is
+judged. The other ratios are of the median rounds, the last of user times. That last one says little: the
+second implementation scans the whole grid for each state, since it is to be plain and not quick, and
+almost any search beats that.
 "
     )
 }

@@ -1,8 +1,8 @@
 //! The proved library, asked for the states of the second implementation.
 
 use second::sheet::State;
-use woolyard::boundary::{self, FIGURES};
-use woolyard::{Answer, Fluid, BOOK_LENGTH};
+use woolyard::boundary::{self, FIGURES, SIDE_FIGURES};
+use woolyard::{Answer, Fluid, Side, BOOK_LENGTH};
 
 /// The reply's number; the figures are written.
 #[inline]
@@ -24,6 +24,17 @@ pub fn state_with_book(
         pascals,
     } = *state;
     boundary::state_with_book(fluid, millikelvin, pascals, slot as u64, book, figures)
+}
+
+/// The reply's number for one side alone; its root and density are written.
+#[inline]
+pub fn side(state: &State, side: Side, figures: &mut [u64; SIDE_FIGURES]) -> u64 {
+    let State {
+        fluid,
+        millikelvin,
+        pascals,
+    } = *state;
+    boundary::side(fluid, millikelvin, pascals, side.number(), figures)
 }
 
 /// The answer to a state that the library accepts.

@@ -37,20 +37,27 @@ impl Report {
         self.bars().iter().all(Bar::met)
     }
 
-    pub fn bars(&self) -> [Bar; 4] {
+    pub fn bars(&self) -> [Bar; 6] {
         let bar = |of, above: f64, below: f64, most| Bar {
             of,
             ratio: above / below,
             most,
         };
         let times = &self.timings;
-        let zeros = times.zeros.median;
+        let [call, zeros] = [times.call.median, times.zeros.median];
         let UserTimes { proved, second } = self.programs;
         [
+            bar("proved call / GSL", call, times.peer.median, 1.0),
             bar(
-                "proved call / GSL",
-                times.call.median,
-                times.peer.median,
+                "gas side alone / proved call",
+                times.gas_beside_call,
+                1.0,
+                1.0,
+            ),
+            bar(
+                "dense side alone / proved call",
+                times.dense_beside_call,
+                1.0,
                 1.0,
             ),
             bar("own gas root / zeros", times.own_start.median, zeros, 0.8),
@@ -73,6 +80,14 @@ impl Report {
         let times = &self.timings;
         let rows = [
             ("proved call, `woolyard_state`", times.call),
+            (
+                "proved call for the gas side alone, `woolyard_side`",
+                times.gas_side,
+            ),
+            (
+                "proved call for the dense side alone, `woolyard_side`",
+                times.dense_side,
+            ),
             (
                 "proved call with a book, its own gas root in the slot",
                 times.own_start,

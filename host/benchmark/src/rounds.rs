@@ -20,10 +20,10 @@ pub struct Timing {
     pub quickest: f64,
 }
 
-/// The timing of each contender, in their order.
+/// The rounds of each contender, in their order: nanoseconds per state.
 pub fn interleaved<const CONTENDERS: usize>(
     mut contenders: [Pass; CONTENDERS],
-) -> [Timing; CONTENDERS] {
+) -> [Vec<f64>; CONTENDERS] {
     let mut passes = [const { Vec::new() }; CONTENDERS];
     for round in 0..WARM_UP_ROUNDS + ROUNDS {
         for (contender, passes) in contenders.iter_mut().zip(&mut passes) {
@@ -33,7 +33,7 @@ pub fn interleaved<const CONTENDERS: usize>(
             }
         }
     }
-    passes.map(timing)
+    passes
 }
 
 pub fn timing(mut passes: Vec<f64>) -> Timing {
@@ -42,6 +42,12 @@ pub fn timing(mut passes: Vec<f64>) -> Timing {
         median: passes[passes.len() / 2],
         quickest: passes[0],
     }
+}
+
+/// The median of the ratios, round by round: what a short while does to both contenders falls out of it.
+pub fn beside(rounds: &[f64], other: &[f64]) -> f64 {
+    let ratios = rounds.iter().zip(other).map(|(this, other)| this / other);
+    timing(ratios.collect()).median
 }
 
 /// Nanoseconds per state of one call each. The compiler may not look through the state.

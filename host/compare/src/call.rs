@@ -7,15 +7,19 @@ use std::fmt;
 pub enum Function {
     State = 0,
     StateWithBook = 1,
-    Heat = 2,
-    Sheet = 3,
-    SheetLine = 4,
+    Side = 2,
+    SideWithBook = 3,
+    Heat = 4,
+    Sheet = 5,
+    SheetLine = 6,
 }
 
 /// The names in the header, in the order of the numbers.
-pub const NAMES: [&str; 5] = [
+pub const NAMES: [&str; 7] = [
     "woolyard_state",
     "woolyard_state_with_book",
+    "woolyard_side",
+    "woolyard_side_with_book",
     "woolyard_heat",
     "woolyard_sheet",
     "woolyard_sheet_line",
@@ -30,7 +34,7 @@ const NOT_YET_MADE: u64 = u64::MAX;
 pub struct Call {
     pub function: Function,
     /// The plain numbers in the order of the header, a double as its pattern; zeros for the rest.
-    pub arguments: [u64; 4],
+    pub arguments: [u64; 5],
     /// What the function fills in, as far as it has so many; the rest must stay as it was.
     pub places: [u64; 5],
     pub book: Vec<u32>,
@@ -42,10 +46,13 @@ pub struct Call {
 }
 
 impl Call {
-    fn new(function: Function, arguments: [u64; 4]) -> Call {
+    /// The arguments that the function has, from the first on.
+    fn new<const COUNT: usize>(function: Function, arguments: [u64; COUNT]) -> Call {
+        let mut five = [0; 5];
+        five[..COUNT].copy_from_slice(&arguments);
         Call {
             function,
-            arguments,
+            arguments: five,
             places: [0; 5],
             book: Vec::new(),
             sheet: Vec::new(),
@@ -54,8 +61,8 @@ impl Call {
         }
     }
 
-    pub fn state([fluid, millikelvin, pascals]: [u64; 3]) -> Call {
-        Call::new(Function::State, [fluid, millikelvin, pascals, 0])
+    pub fn state(state: [u64; 3]) -> Call {
+        Call::new(Function::State, state)
     }
 
     /// The first `length` numbers of `book` are the book.
@@ -69,8 +76,29 @@ impl Call {
         }
     }
 
+    pub fn side([fluid, millikelvin, pascals]: [u64; 3], side: u64) -> Call {
+        Call::new(Function::Side, [fluid, millikelvin, pascals, side])
+    }
+
+    /// As for `state_with_book`.
+    pub fn side_with_book(
+        state: [u64; 3],
+        side: u64,
+        slot: u64,
+        book: &[u32],
+        length: usize,
+    ) -> Call {
+        let [fluid, millikelvin, pascals] = state;
+        let arguments = [fluid, millikelvin, pascals, side, slot];
+        Call {
+            book: book.to_vec(),
+            length,
+            ..Call::new(Function::SideWithBook, arguments)
+        }
+    }
+
     pub fn heat(kelvin_pattern: u64) -> Call {
-        Call::new(Function::Heat, [kelvin_pattern, 0, 0, 0])
+        Call::new(Function::Heat, [kelvin_pattern])
     }
 
     /// The first `length` bytes of `sheet` are the sheet.
@@ -78,16 +106,16 @@ impl Call {
         Call {
             sheet: sheet.to_vec(),
             length,
-            ..Call::new(Function::Sheet, [0; 4])
+            ..Call::new(Function::Sheet, [])
         }
     }
 
     /// As for `sheet`.
     pub fn sheet_line(sheet: &[u8], length: usize, k: u64) -> Call {
         Call {
-            function: Function::SheetLine,
-            arguments: [k, 0, 0, 0],
-            ..Call::sheet(sheet, length)
+            sheet: sheet.to_vec(),
+            length,
+            ..Call::new(Function::SheetLine, [k])
         }
     }
 }
@@ -106,8 +134,10 @@ impl fmt::Display for Call {
             _ => write!(text, "{:?}", self.places),
         }?;
         match self.function {
-            Function::State | Function::Heat => Ok(()),
-            Function::StateWithBook => write!(text, ", book {:?}", self.book),
+            Function::State | Function::Side | Function::Heat => Ok(()),
+            Function::StateWithBook | Function::SideWithBook => {
+                write!(text, ", book {:?}", self.book)
+            }
             Function::Sheet | Function::SheetLine => {
                 write!(text, ", sheet \"{}\"", self.sheet.escape_ascii())
             }
@@ -118,12 +148,16 @@ impl fmt::Display for Call {
 impl Call {
     /// The arguments with their names.
     fn asked(&self) -> String {
-        let [first, second, third, fourth] = self.arguments;
+        let [first, second, third, fourth, fifth] = self.arguments;
         let state = format!("fluid {first}, millikelvin {second}, pascals {third}");
         let length = self.length;
         match self.function {
             Function::State => state,
             Function::StateWithBook => format!("{state}, slot {fourth}, book length {length}"),
+            Function::Side => format!("{state}, side {fourth}"),
+            Function::SideWithBook => {
+                format!("{state}, side {fourth}, slot {fifth}, book length {length}")
+            }
             Function::Heat => format!("kelvin {first:#018x} or {}", f64::from_bits(first)),
             Function::Sheet => format!("length {length}"),
             Function::SheetLine => format!("length {length}, k {first}"),

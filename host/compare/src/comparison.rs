@@ -1,7 +1,7 @@
 //! Asks the archive and the second implementation the same, and stops at the first difference.
 
 use crate::boundary::Boundary;
-use crate::call::Call;
+use crate::call::{Call, NAMES};
 use crate::second_side::Second;
 use second::heat::NOT_NUMBERS;
 use second::random::Random;
@@ -11,10 +11,10 @@ use std::io;
 pub type Outcome = Result<(), String>;
 
 /// How many calls were made of each function.
-pub type Counts = [u64; 5];
+pub type Counts = [u64; NAMES.len()];
 
 /// How much waits before it is asked at once. A served process reads a batch into 1 MiB; each call adds
-/// less than a hundred bytes to what it lends, and the last one lends less than half of that.
+/// less than 120 bytes to what it lends, and the last one lends less than a quarter of that.
 const MOST_CALLS: usize = 2000;
 const MOST_LENT_BYTES: usize = 300_000;
 
@@ -127,6 +127,7 @@ mod tests {
             Call::state(state),
             Call::heat(0),
             Call::sheet(b"0\n0\n0", 4),
+            Call::side_with_book(state, 1, 63, &[7; 66], 64),
             Call::state_with_book(state, 63, &[7; 66], 64),
         ]
     }
@@ -152,13 +153,34 @@ mod tests {
         }
     }
 
+    /// Where the dense side is named: in the number, in both figures, and in the slot, where the gas root
+    /// belongs.
+    #[test]
+    fn differences_of_a_side() {
+        let state = [1, 120_000, 500_000];
+        let side = || vec![Call::side_with_book(state, 1, 63, &[7; 66], 64)];
+        assert_eq!(outcome(side(), |_| ()), Ok(()));
+        let changes: [fn(&mut Call); 4] = [
+            |call| call.number = 12,
+            |call| call.places[0] = 92_696,
+            |call| call.places[1] = 17_299,
+            |call| call.book[63] = 1699,
+        ];
+        for change in changes {
+            let told = outcome(side(), change).expect_err("a difference");
+            assert!(told.contains("side 1, slot 63") && told.contains("[1699, 943832, "));
+        }
+    }
+
     /// Of a refused heat capacity, whose double stays; of a sheet's bytes; of a place it does not have.
     #[test]
     fn differences_of_what_stays() {
         let heat = || vec![Call::heat(0)];
         let sheet = || vec![Call::sheet(b"0\n0\n0", 4)];
+        let side = || vec![Call::side([1, 120_000, 500_000], 0)];
         assert!(outcome(heat(), |call| call.places[0] ^= 1).is_err());
         assert!(outcome(sheet(), |call| call.sheet[0] = b'1').is_err());
         assert!(outcome(sheet(), |call| call.places[3] ^= 1).is_err());
+        assert!(outcome(side(), |call| call.places[2] ^= 1).is_err());
     }
 }

@@ -15,18 +15,24 @@ impl Boundary for Linked {
 }
 
 fn make(call: &mut Call) {
-    let [first, second, third, fourth] = call.arguments;
+    let [first, second, third, fourth, fifth] = call.arguments;
     call.number = match call.function {
         Function::State => boundary::state(first, second, third, &mut call.places),
         Function::StateWithBook => {
             let book = &mut call.book[..call.length];
             boundary::state_with_book(first, second, third, fourth, book, &mut call.places)
         }
+        Function::Side => boundary::side(first, second, third, fourth, first_of(&mut call.places)),
+        Function::SideWithBook => {
+            let book = &mut call.book[..call.length];
+            let figures = first_of(&mut call.places);
+            boundary::side_with_book(first, second, third, fourth, fifth, book, figures)
+        }
         Function::Heat => heat(first, &mut call.places[0]),
-        Function::Sheet => boundary::sheet(&call.sheet[..call.length], three_of(&mut call.places)),
+        Function::Sheet => boundary::sheet(&call.sheet[..call.length], first_of(&mut call.places)),
         Function::SheetLine => {
             let sheet = &call.sheet[..call.length];
-            boundary::sheet_line(sheet, first, three_of(&mut call.places))
+            boundary::sheet_line(sheet, first, first_of(&mut call.places))
         }
     };
 }
@@ -38,6 +44,7 @@ fn heat(kelvin_pattern: u64, place: &mut u64) -> u64 {
     number
 }
 
-fn three_of(places: &mut [u64; 5]) -> &mut [u64; 3] {
-    places.first_chunk_mut().expect("three of five")
+/// As many of the places as the function has.
+fn first_of<const COUNT: usize>(places: &mut [u64; 5]) -> &mut [u64; COUNT] {
+    places.first_chunk_mut().expect("no more than five")
 }

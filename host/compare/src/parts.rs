@@ -3,6 +3,7 @@
 mod books;
 mod doubles;
 mod sheets;
+mod sides;
 mod split;
 mod states;
 
@@ -27,10 +28,14 @@ const WORKED: [[u64; 3]; 9] = [
 /// temperature is the critical one; for hydrogen that is 43,600 - 2,180,000,000 / 201,594.
 const FLUIDS: [(u64, u64, u64); 2] = [(0, COLDEST[0], 32_786), (1, COLDEST[1], 154_576)];
 
+/// No sides, though the third and fourth are gas and dense to whoever keeps 32 bits.
+const NO_SIDES: [u64; 6] = [2, 3, 1 << 32, (1 << 32) + 1, 1 << 63, u64::MAX];
+
 /// The quick parts first.
 pub fn units() -> Vec<Unit> {
     let mut units = doubles::units();
     units.extend(sheets::units());
+    units.extend(sides::units());
     units.extend(books::units());
     units.extend(states::units());
     units.extend(split::units());

@@ -4,7 +4,7 @@ use crate::boundary::Boundary;
 use crate::call::{Call, Function};
 use second::heat::heat_capacity;
 use second::sheet::{self, Refusal};
-use second::state::{put_into_book, reply, Reply};
+use second::state::{put_into_book, put_side_into_book, reply, side_of, Reply, SideReply};
 use std::collections::HashMap;
 use std::io;
 
@@ -23,6 +23,8 @@ impl Boundary for Second {
             match call.function {
                 Function::State => self.state(call),
                 Function::StateWithBook => self.state_with_book(call),
+                Function::Side => self.side(call),
+                Function::SideWithBook => self.side_with_book(call),
                 Function::Heat => heat(call),
                 Function::Sheet => whole_sheet(call),
                 Function::SheetLine => sheet_line(call),
@@ -43,7 +45,7 @@ impl Second {
     }
 
     fn reply_to(&mut self, call: &Call) -> Reply {
-        let [fluid, millikelvin, pascals, _slot] = call.arguments;
+        let [fluid, millikelvin, pascals, ..] = call.arguments;
         self.reply([fluid, millikelvin, pascals])
     }
 
@@ -58,11 +60,28 @@ impl Second {
         let reply = put_into_book(without, slot, &mut call.book[..call.length]);
         write_reply(call, reply);
     }
+
+    fn side(&mut self, call: &mut Call) {
+        let whole = self.reply_to(call);
+        write_side(call, side_of(whole, call.arguments[3]));
+    }
+
+    fn side_with_book(&mut self, call: &mut Call) {
+        let whole = self.reply_to(call);
+        let [.., side, slot] = call.arguments;
+        let reply = put_side_into_book(whole, side, slot, &mut call.book[..call.length]);
+        write_side(call, reply);
+    }
 }
 
 fn write_reply(call: &mut Call, reply: Reply) {
     call.number = reply.number;
     call.places = reply.figures();
+}
+
+fn write_side(call: &mut Call, reply: SideReply) {
+    call.number = reply.number;
+    call.places[..2].copy_from_slice(&reply.figures());
 }
 
 /// Where it is refused the place is left alone.

@@ -1,8 +1,8 @@
 //! The archive in another process, which answers over its standard input and output: the program
 //! boundary/served.c, or an emulator that runs it.
 //!
-//! A batch is the number of its bytes, a word, and the calls one after the other. A call is twelve
-//! words: the function; four arguments; the length; how many bytes are lent; five places. What is lent
+//! A batch is the number of its bytes, a word, and the calls one after the other. A call is thirteen
+//! words: the function; five arguments; the length; how many bytes are lent; five places. What is lent
 //! follows, filled up to whole words. Each answer takes the place of its call, with the reply's number
 //! where the function was. A word has eight bytes, the lowest first.
 
@@ -15,10 +15,10 @@ use std::thread;
 use std::time::Duration;
 
 /// The words of a call before what is lent.
-const WORDS: usize = 12;
+const WORDS: usize = 13;
 
 /// Where the places begin among them.
-const PLACES: usize = 7;
+const PLACES: usize = 8;
 
 const WORD_BYTES: usize = 8;
 
@@ -190,10 +190,10 @@ mod tests {
         }
     }
 
-    /// An argument, the length, and what fills the last word up.
+    /// The first argument and the last, the length, and what fills the last word up.
     #[test]
     fn written_beside_the_places() {
-        for word in [1, 5, WORDS + 1] {
+        for word in [1, 5, 6, WORDS + 1] {
             let mut answer = bytes_of(&call());
             answer[word * WORD_BYTES + 7] ^= 1;
             assert!(answered(&mut call(), &answer).is_err());

@@ -1,6 +1,7 @@
-//! Document 01, "State sheets": a sheet read line by line, and what the program `sheet` prints of it.
+//! Document 01, "State sheets": a sheet read line by line, and what the program `sheet` prints of it, both
+//! sides of a SPLIT state among it (document 02, C-18).
 
-use crate::state::{reply, HYDROGEN, ONE, OXYGEN};
+use crate::state::{reply, Reply, HYDROGEN, ONE, OXYGEN};
 
 /// How many bytes a sheet has at most.
 pub const LONGEST: usize = 65_536;
@@ -155,20 +156,30 @@ pub fn print(sheet: &[u8]) -> String {
     }
 }
 
-/// The line printed for one state.
+/// The line printed for one state. A ONE state has one root and one density to print.
 fn answer(state: &State) -> String {
-    let reply = reply(state.fluid, state.millikelvin, state.pascals);
-    if reply.number != 0 {
-        return format!("NO {}\n", reply.number);
+    let Reply {
+        number,
+        kind,
+        gas_root,
+        dense_root,
+        gas_density,
+        dense_density,
+    } = reply(state.fluid, state.millikelvin, state.pascals);
+    if number != 0 {
+        return format!("NO {number}\n");
     }
-    let kind = if reply.kind == ONE { "ONE" } else { "SPLIT" };
-    format!("{kind} {} {}\n", reply.gas_root, reply.gas_density)
+    if kind == ONE {
+        return format!("ONE {gas_root} {gas_density}\n");
+    }
+    format!("SPLIT {gas_root} {gas_density} {dense_root} {dense_density}\n")
 }
 
 #[cfg(test)]
 mod tests {
     use super::*;
     use crate::random::Random;
+    use crate::state::{side_reply, SideReply, DENSE, GAS};
 
     /// The last is 2 to the 64th, which is 0 to whoever does not look at the carry.
     const NO_NUMBERS: [&[u8]; 22] = [
@@ -223,10 +234,34 @@ mod tests {
     fn example() {
         let expected = "ONE 100474 804
 ONE 99286 12920
-SPLIT 92696 17299
+SPLIT 92696 17299 1699 943832
 NO 21
 ";
         assert_eq!(print(EXAMPLE), expected);
+    }
+
+    /// The figures printed are those that each side gives when it is named: of a SPLIT state the gas side's
+    /// and then the dense one's, of a ONE state those that the two share.
+    #[test]
+    fn lines_have_what_the_sides_give() {
+        let mut split = 0;
+        for (fluid, millikelvin) in [(HYDROGEN, 30_000), (OXYGEN, 140_000)] {
+            for pascals in (10_000..4_000_000).step_by(50_000) {
+                let [gas, dense] = [GAS, DENSE]
+                    .map(|side| side_reply(fluid, millikelvin, pascals, side))
+                    .map(|SideReply { root, density, .. }| format!("{root} {density}"));
+                let expected = if gas == dense {
+                    format!("ONE {gas}\n")
+                } else {
+                    split += 1;
+                    format!("SPLIT {gas} {dense}\n")
+                };
+                let printed = answer(&state(fluid, millikelvin, pascals));
+                assert_eq!(printed, expected);
+            }
+        }
+        // of 160; the test would say little if either kind were rare
+        assert!((40..120).contains(&split), "{split}");
     }
 
     /// Lines are counted through both sections and given as written; 16 comes after the last.

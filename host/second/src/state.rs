@@ -1,6 +1,6 @@
-//! Document 01, "Replies" to "The book of starting points", with the finer refusals and the gas constant
-//! of document 02 (C-12 and C-16): the reply to a state, as the papers write it. Every product has 128
-//! bits, so that none needs a thought.
+//! Document 01, "Replies" to "The book of starting points", with the finer refusals, the gas constant and
+//! the named side of document 02 (C-12, C-16 and C-18): the reply to a state, as the papers write it.
+//! Every product has 128 bits, so that none needs a thought.
 
 use crate::cubic::crossings;
 
@@ -10,6 +10,10 @@ pub const OXYGEN: u64 = 1;
 /// The two kinds. A refused state has none, which is 0.
 pub const ONE: u64 = 1;
 pub const SPLIT: u64 = 2;
+
+/// The two sides.
+pub const GAS: u64 = 0;
+pub const DENSE: u64 = 1;
 
 /// The ends of the ranges, which are in range: the lowest millikelvin of each fluid, the highest of both,
 /// and the pascals.
@@ -48,6 +52,21 @@ impl Reply {
             self.gas_density,
             self.dense_density,
         ]
+    }
+}
+
+/// A reply for one side: its number, and that side's root and density, zeros where it is refused.
+#[derive(Clone, Copy, Debug, Default, PartialEq, Eq)]
+pub struct SideReply {
+    pub number: u64,
+    pub root: u64,
+    pub density: u64,
+}
+
+impl SideReply {
+    /// All but the number.
+    pub fn figures(&self) -> [u64; 2] {
+        [self.root, self.density]
     }
 }
 
@@ -171,10 +190,61 @@ pub fn put_into_book(without: Reply, slot: u64, book: &mut [u32]) -> Reply {
     without
 }
 
+/// The reply to a call that names the side, without a book.
+pub fn side_reply(fluid: u64, millikelvin: u64, pascals: u64, side: u64) -> SideReply {
+    side_of(reply(fluid, millikelvin, pascals), side)
+}
+
+/// The named side of a whole reply. Refusal 12 comes after the state's own, which are passed on.
+pub fn side_of(whole: Reply, side: u64) -> SideReply {
+    if whole.number != 0 {
+        return side_refused(whole.number);
+    }
+    let (root, density) = match side {
+        GAS => (whole.gas_root, whole.gas_density),
+        DENSE => (whole.dense_root, whole.dense_density),
+        _ => return side_refused(12),
+    };
+    SideReply {
+        number: 0,
+        root,
+        density,
+    }
+}
+
+/// The same with a book, which is also written to.
+pub fn side_reply_with_book(
+    fluid: u64,
+    millikelvin: u64,
+    pascals: u64,
+    side: u64,
+    slot: u64,
+    book: &mut [u32],
+) -> SideReply {
+    put_side_into_book(reply(fluid, millikelvin, pascals), side, slot, book)
+}
+
+/// What a book makes of a named side of the whole reply to the same state. Refusal 4 comes after 12, and
+/// whichever side is named, it is the gas root that is written.
+pub fn put_side_into_book(whole: Reply, side: u64, slot: u64, book: &mut [u32]) -> SideReply {
+    let without = side_of(whole, side);
+    if without.number != 0 {
+        return without;
+    }
+    side_of(put_into_book(whole, slot, book), side)
+}
+
 fn refused(number: u64) -> Reply {
     Reply {
         number,
         ..Reply::default()
+    }
+}
+
+fn side_refused(number: u64) -> SideReply {
+    SideReply {
+        number,
+        ..SideReply::default()
     }
 }
 
@@ -381,6 +451,135 @@ mod tests {
         assert_eq!((&book[..63], book[63]), (&[7; 63][..], 99_286));
         assert_eq!(call(0, &mut [7; 63]), refused(4));
         assert_eq!(call(0, &mut [7; 65]), refused(4));
+    }
+
+    // Document 02, C-18.
+
+    /// Neither gas nor dense, though the third and fourth are those to whoever keeps 32 bits.
+    const NO_SIDES: [u64; 6] = [2, 3, 1 << 32, (1 << 32) + 1, 1 << 63, u64::MAX];
+
+    fn one_side(root: u64, density: u64) -> SideReply {
+        SideReply {
+            number: 0,
+            root,
+            density,
+        }
+    }
+
+    /// A SPLIT state gives each side its own figures, and no others.
+    #[test]
+    fn sides_of_a_split_state() {
+        let side = |side| side_reply(OXYGEN, 120_000, 500_000, side);
+        assert_eq!(side(GAS), one_side(92_696, 17_299));
+        assert_eq!(side(DENSE), one_side(1699, 943_832));
+    }
+
+    #[test]
+    fn sides_of_one_states() {
+        for side in [GAS, DENSE] {
+            for (fluid, millikelvin, pascals, expected) in [
+                (OXYGEN, 300_000, 1_000_000, one_side(99_286, 12_920)),
+                (HYDROGEN, 300_000, 1_000_000, one_side(100_474, 804)),
+                (HYDROGEN, 1_000_000, 10_000, one_side(100_001, 2)),
+            ] {
+                assert_eq!(side_reply(fluid, millikelvin, pascals, side), expected);
+            }
+        }
+    }
+
+    /// Both sides together are the whole reply, and they are equal exactly for a ONE state.
+    #[test]
+    fn sides_are_those_of_the_whole_reply() {
+        let mut random = Random(18);
+        let mut split = 0;
+        for _ in 0..1000 {
+            let fluid = random.number() % 2;
+            let coldest = COLDEST[fluid as usize];
+            let millikelvin = coldest + random.number() % (3 * coldest);
+            let pascals = LOWEST_PRESSURE + random.magnitude(2_000_000);
+            let whole = reply(fluid, millikelvin, pascals);
+            let [gas, dense] =
+                [GAS, DENSE].map(|side| side_reply(fluid, millikelvin, pascals, side));
+            assert_eq!(gas, one_side(whole.gas_root, whole.gas_density));
+            assert_eq!(dense, one_side(whole.dense_root, whole.dense_density));
+            assert_eq!(gas.root == dense.root, whole.kind == ONE);
+            if whole.kind == ONE {
+                assert_eq!(gas, dense);
+            }
+            split += u64::from(whole.kind == SPLIT);
+        }
+        // the comparison would say little if either kind were rare
+        assert!((200..800).contains(&split), "{split}");
+    }
+
+    /// 12 comes after each of the state's own refusals and before 4; with a good side the order is that
+    /// of the whole form, and nothing is written.
+    #[test]
+    fn order_of_the_refusals_with_a_side() {
+        let states = [
+            (2, 0, 0, 1),
+            (u64::MAX, 300_000, 1_000_000, 1),
+            (OXYGEN, 55_999, 0, 21),
+            (OXYGEN, 1_000_001, 0, 22),
+            (OXYGEN, 300_000, 9_999, 31),
+            (OXYGEN, 300_000, 50_000_001, 32),
+            (HYDROGEN, 13_999, u64::MAX, 21),
+            (HYDROGEN, u64::MAX, u64::MAX, 22),
+            (HYDROGEN, 14_000, 0, 31),
+            (HYDROGEN, 1_000_000, u64::MAX, 32),
+        ];
+        let mut book = [7; BOOK];
+        for (fluid, millikelvin, pascals, number) in states {
+            for side in [GAS, DENSE].into_iter().chain(NO_SIDES) {
+                let without = side_reply(fluid, millikelvin, pascals, side);
+                assert_eq!(without, side_refused(number));
+                for slot in [0, 64] {
+                    let with =
+                        side_reply_with_book(fluid, millikelvin, pascals, side, slot, &mut book);
+                    assert_eq!(with, without);
+                }
+            }
+        }
+        assert_eq!(book, [7; BOOK]);
+    }
+
+    /// For both kinds of state, at the slots and book lengths that are answered and those that are not.
+    #[test]
+    fn sides_that_are_neither() {
+        for (millikelvin, pascals) in [(300_000, 1_000_000), (120_000, 500_000)] {
+            for side in NO_SIDES {
+                let refused = side_refused(12);
+                assert_eq!(side_reply(OXYGEN, millikelvin, pascals, side), refused);
+                for (slot, length) in [(0, 64), (63, 64), (64, 64), (u64::MAX, 64), (0, 63), (0, 0)]
+                {
+                    let mut book = vec![7; length];
+                    let reply =
+                        side_reply_with_book(OXYGEN, millikelvin, pascals, side, slot, &mut book);
+                    assert_eq!((reply, book), (refused, vec![7; length]));
+                }
+            }
+        }
+    }
+
+    /// The gas root is written for both sides, and no other place is touched; 4 as in the whole form.
+    #[test]
+    fn slots_of_the_book_with_a_side() {
+        for (side, expected) in [
+            (GAS, one_side(92_696, 17_299)),
+            (DENSE, one_side(1699, 943_832)),
+        ] {
+            let call = |slot, book: &mut [u32]| {
+                side_reply_with_book(OXYGEN, 120_000, 500_000, side, slot, book)
+            };
+            let mut book = [7; BOOK];
+            assert_eq!(call(64, &mut book), side_refused(4));
+            assert_eq!(call(u64::MAX, &mut book), side_refused(4));
+            assert_eq!(book, [7; BOOK]);
+            assert_eq!(call(63, &mut book), expected);
+            assert_eq!((&book[..63], book[63]), (&[7; 63][..], 92_696));
+            assert_eq!(call(0, &mut [7; 63]), side_refused(4));
+            assert_eq!(call(0, &mut [7; 65]), side_refused(4));
+        }
     }
 
     // Document 01, "Errors that look right".

@@ -1,6 +1,6 @@
 //! The wrappers in use: what host/examples/woolyard_example.c does, in Rust.
 
-use woolyard::{FaultySheet, Fluid, Kind, Refusal};
+use woolyard::{FaultySheet, Fluid, Kind, Refusal, Side};
 
 fn print_sheet(sheet: &[u8]) {
     match woolyard::sheet(sheet) {
@@ -33,6 +33,16 @@ fn main() -> Result<(), Refusal> {
         "  dense root {}, {} g/m3",
         answer.dense_root, answer.dense_density
     );
+
+    let dense = woolyard::side(Fluid::Oxygen, 120_000, 500_000, Side::Dense)?;
+    println!(
+        "its dense side alone: reply 0, root {}, {} g/m3",
+        dense.root, dense.density
+    );
+    // a number from elsewhere is made a side first, and one that is neither goes no further
+    if let Err(refusal) = Side::try_from(2) {
+        println!("its side 2: reply {}", refusal.number());
+    }
 
     let mut book = [0; woolyard::BOOK_LENGTH];
     woolyard::state_with_book(Fluid::Oxygen, 120_000, 500_000, 5, &mut book)?;

@@ -1,4 +1,4 @@
-//! The five functions of include/woolyard.h, as they are: numbers in, the reply's number out, and the
+//! The seven functions of include/woolyard.h, as they are: numbers in, the reply's number out, and the
 //! figures in the places that the caller lends. All that is unsafe stands here.
 //!
 //! The header asks that a pointer points to as many elements as its array or its length says, that it
@@ -10,6 +10,9 @@
 
 /// How many figures a state has.
 pub const FIGURES: usize = 5;
+
+/// How many figures one side of it has.
+pub const SIDE_FIGURES: usize = 2;
 
 mod foreign {
     extern "C" {
@@ -27,6 +30,23 @@ mod foreign {
             book: *mut u32,
             book_length: usize,
             figures: *mut [u64; super::FIGURES],
+        ) -> u64;
+        pub fn woolyard_side(
+            fluid: u64,
+            millikelvin: u64,
+            pascals: u64,
+            side: u64,
+            figures: *mut [u64; super::SIDE_FIGURES],
+        ) -> u64;
+        pub fn woolyard_side_with_book(
+            fluid: u64,
+            millikelvin: u64,
+            pascals: u64,
+            side: u64,
+            slot: u64,
+            book: *mut u32,
+            book_length: usize,
+            figures: *mut [u64; super::SIDE_FIGURES],
         ) -> u64;
         pub fn woolyard_heat(kelvin: f64, heat: *mut f64) -> u64;
         pub fn woolyard_sheet(sheet: *const u8, length: usize, reading: *mut [u64; 3]) -> u64;
@@ -61,6 +81,47 @@ pub fn state_with_book(
     // SAFETY: `book` has `length` places, `figures` five; both are `&mut`, so they lie apart.
     unsafe {
         foreign::woolyard_state_with_book(fluid, millikelvin, pascals, slot, book, length, figures)
+    }
+}
+
+/// `woolyard_side`: root and density of the side, which may be any number.
+#[inline]
+pub fn side(
+    fluid: u64,
+    millikelvin: u64,
+    pascals: u64,
+    side: u64,
+    figures: &mut [u64; SIDE_FIGURES],
+) -> u64 {
+    // SAFETY: `figures` is the two places that are written, and nothing else is lent.
+    unsafe { foreign::woolyard_side(fluid, millikelvin, pascals, side, figures) }
+}
+
+/// `woolyard_side_with_book`: the same, with a book of any length.
+#[inline]
+pub fn side_with_book(
+    fluid: u64,
+    millikelvin: u64,
+    pascals: u64,
+    side: u64,
+    slot: u64,
+    book: &mut [u32],
+    figures: &mut [u64; SIDE_FIGURES],
+) -> u64 {
+    let length = book.len();
+    let book = book.as_mut_ptr();
+    // SAFETY: `book` has `length` places, `figures` two; both are `&mut`, so they lie apart.
+    unsafe {
+        foreign::woolyard_side_with_book(
+            fluid,
+            millikelvin,
+            pascals,
+            side,
+            slot,
+            book,
+            length,
+            figures,
+        )
     }
 }
 

@@ -7,12 +7,15 @@
 //! calls may run at the same time.
 //!
 //! ```
-//! use woolyard::{Fluid, Kind, Refusal};
+//! use woolyard::{Fluid, Kind, Refusal, Side};
 //!
 //! let answer = woolyard::state(Fluid::Oxygen, 120_000, 500_000)?;
 //! assert_eq!(answer.kind, Kind::Split);
 //! assert_eq!((answer.gas_root, answer.gas_density), (92_696, 17_299));
 //! assert_eq!((answer.dense_root, answer.dense_density), (1699, 943_832));
+//!
+//! let dense = woolyard::side(Fluid::Oxygen, 120_000, 500_000, Side::Dense)?;
+//! assert_eq!((dense.root, dense.density), (1699, 943_832));
 //!
 //! let refused = woolyard::state(Fluid::Oxygen, 55_999, 500_000);
 //! assert_eq!(refused, Err(Refusal::TemperatureTooLow));
@@ -24,8 +27,8 @@ mod reply;
 #[cfg(test)]
 mod tests;
 
-use boundary::FIGURES;
-pub use reply::{Answer, FaultySheet, Fluid, Kind, Refusal, State};
+use boundary::{FIGURES, SIDE_FIGURES};
+pub use reply::{Answer, FaultySheet, Fluid, Kind, Refusal, Side, SideAnswer, State};
 
 /// How many numbers a book has.
 pub const BOOK_LENGTH: usize = 64;
@@ -55,6 +58,38 @@ pub fn state_with_book(
     let fluid = fluid.number();
     let number = boundary::state_with_book(fluid, millikelvin, pascals, slot, book, &mut figures);
     answer(number, figures)
+}
+
+/// The reply to a state for the one side that is named: that side's root and density, or the first of
+/// refusals 21, 22, 31 and 32 that applies. For a state of kind ONE both sides give the same figures.
+pub fn side(
+    fluid: Fluid,
+    millikelvin: u64,
+    pascals: u64,
+    side: Side,
+) -> Result<SideAnswer, Refusal> {
+    let mut figures = [0; SIDE_FIGURES];
+    let [fluid, side] = [fluid.number(), side.number()];
+    let number = boundary::side(fluid, millikelvin, pascals, side, &mut figures);
+    side_answer(number, figures)
+}
+
+/// The same with a book, which is used as [`state_with_book`] uses it: an answered call writes the gas root
+/// into its slot, whichever side is named, and touches no other place; a refused call writes nothing to
+/// the book. The first of refusals 21, 22, 31, 32 and 4 that applies is given.
+pub fn side_with_book(
+    fluid: Fluid,
+    millikelvin: u64,
+    pascals: u64,
+    side: Side,
+    slot: u64,
+    book: &mut [u32],
+) -> Result<SideAnswer, Refusal> {
+    let mut figures = [0; SIDE_FIGURES];
+    let [fluid, side] = [fluid.number(), side.number()];
+    let number =
+        boundary::side_with_book(fluid, millikelvin, pascals, side, slot, book, &mut figures);
+    side_answer(number, figures)
 }
 
 /// Hydrogen's ideal heat capacity at a temperature in kelvin, any double at all: kJ/(kg K), equal bit
@@ -116,4 +151,11 @@ fn answer(number: u64, figures: [u64; FIGURES]) -> Result<Answer, Refusal> {
         gas_density,
         dense_density,
     })
+}
+
+/// The same of one side.
+fn side_answer(number: u64, figures: [u64; SIDE_FIGURES]) -> Result<SideAnswer, Refusal> {
+    Refusal::check(number)?;
+    let [root, density] = figures;
+    Ok(SideAnswer { root, density })
 }

@@ -27,6 +27,30 @@ impl TryFrom<u64> for Fluid {
     }
 }
 
+/// The sides of a state.
+#[derive(Clone, Copy, Debug, PartialEq, Eq, Hash)]
+pub enum Side {
+    Gas = 0,
+    Dense = 1,
+}
+
+impl Side {
+    /// The number that stands for the side.
+    pub fn number(self) -> u64 {
+        self as u64
+    }
+}
+
+impl TryFrom<u64> for Side {
+    type Error = Refusal;
+
+    fn try_from(number: u64) -> Result<Side, Refusal> {
+        let mut sides = [Side::Gas, Side::Dense].into_iter();
+        let side = sides.find(|side| side.number() == number);
+        side.ok_or(Refusal::NoSuchSide)
+    }
+}
+
 /// The kinds of an answered state. A refused state has none.
 #[derive(Clone, Copy, Debug, PartialEq, Eq, Hash)]
 pub enum Kind {
@@ -50,6 +74,15 @@ pub struct Answer {
     pub dense_density: u64,
 }
 
+/// The figures of one side of an answered state.
+#[derive(Clone, Copy, Debug, PartialEq, Eq, Hash)]
+pub struct SideAnswer {
+    /// The gas root or the dense root, in hundred-thousandths.
+    pub root: u64,
+    /// Of that root, in grams per cubic metre, rounded down.
+    pub density: u64,
+}
+
 /// A state line as written, in range or not.
 #[derive(Clone, Copy, Debug, PartialEq, Eq, Hash)]
 pub struct State {
@@ -66,6 +99,7 @@ pub enum Refusal {
     TemperatureTooHigh = 22,
     PressureTooLow = 31,
     PressureTooHigh = 32,
+    NoSuchSide = 12,
     NoSuchSlot = 4,
     HeatOutOfRange = 5,
     SheetMalformed = 6,
@@ -74,12 +108,13 @@ pub enum Refusal {
 }
 
 impl Refusal {
-    const ALL: [Refusal; 10] = [
+    const ALL: [Refusal; 11] = [
         Refusal::NoSuchFluid,
         Refusal::TemperatureTooLow,
         Refusal::TemperatureTooHigh,
         Refusal::PressureTooLow,
         Refusal::PressureTooHigh,
+        Refusal::NoSuchSide,
         Refusal::NoSuchSlot,
         Refusal::HeatOutOfRange,
         Refusal::SheetMalformed,
@@ -110,6 +145,7 @@ impl fmt::Display for Refusal {
             Refusal::TemperatureTooHigh => "temperature above the fluid's range",
             Refusal::PressureTooLow => "pressure below the range",
             Refusal::PressureTooHigh => "pressure above the range",
+            Refusal::NoSuchSide => "side is neither 0 nor 1",
             Refusal::NoSuchSlot => "book not of 64 numbers, or slot above 63",
             Refusal::HeatOutOfRange => "heat-capacity temperature not a number in 14 to 1000 K",
             Refusal::SheetMalformed => "sheet badly formed",

@@ -1,4 +1,4 @@
-//! Document 01, "Points worked through" and "State sheets".
+//! Document 01, "Points worked through" and "State sheets", and document 02, C-18.
 
 use super::*;
 
@@ -68,6 +68,101 @@ fn slots_of_the_book() {
     assert_eq!(book, [7; BOOK_LENGTH]);
     assert_eq!(call(63, &mut book), Ok(one(99_286, 12_920)));
     assert_eq!((&book[..63], book[63]), (&[7; 63][..], 99_286));
+}
+
+/// Neither gas nor dense, though the second and third are those to whoever keeps 32 bits.
+const NO_SIDES: [u64; 4] = [2, 1 << 32, (1 << 32) + 1, u64::MAX];
+
+fn one_side(root: u64, density: u64) -> SideAnswer {
+    SideAnswer { root, density }
+}
+
+/// Each side of a SPLIT state has its own figures, and the two of a ONE state share them.
+#[test]
+fn sides() {
+    let split = |which| side(Fluid::Oxygen, 120_000, 500_000, which);
+    assert_eq!(split(Side::Gas), Ok(one_side(92_696, 17_299)));
+    assert_eq!(split(Side::Dense), Ok(one_side(1699, 943_832)));
+    for which in [Side::Gas, Side::Dense] {
+        let oxygen = |millikelvin, pascals| side(Fluid::Oxygen, millikelvin, pascals, which);
+        assert_eq!(oxygen(300_000, 1_000_000), Ok(one_side(99_286, 12_920)));
+        assert_eq!(oxygen(55_999, 0), Err(Refusal::TemperatureTooLow));
+        assert_eq!(oxygen(1_000_001, 0), Err(Refusal::TemperatureTooHigh));
+        assert_eq!(oxygen(56_000, 9_999), Err(Refusal::PressureTooLow));
+        assert_eq!(oxygen(56_000, 50_000_001), Err(Refusal::PressureTooHigh));
+        let hydrogen = side(Fluid::Parahydrogen, 300_000, 1_000_000, which);
+        assert_eq!(hydrogen, Ok(one_side(100_474, 804)));
+    }
+}
+
+#[test]
+fn numbers_of_the_sides() {
+    assert_eq!(Side::try_from(0), Ok(Side::Gas));
+    assert_eq!(Side::try_from(1), Ok(Side::Dense));
+    for side in NO_SIDES {
+        assert_eq!(Side::try_from(side), Err(Refusal::NoSuchSide));
+    }
+    assert_eq!(Refusal::check(12), Err(Refusal::NoSuchSide));
+}
+
+/// The state's own refusals come before 12, and both places are zeros in any case.
+#[test]
+fn sides_that_are_neither() {
+    for side in NO_SIDES {
+        let call = |fluid, millikelvin, pascals| {
+            let mut figures = [7; SIDE_FIGURES];
+            let number = boundary::side(fluid, millikelvin, pascals, side, &mut figures);
+            assert_eq!(figures, [0; SIDE_FIGURES]);
+            number
+        };
+        assert_eq!(call(2, 0, 0), 1);
+        assert_eq!(call(1, 55_999, 0), 21);
+        assert_eq!(call(1, 1_000_001, 0), 22);
+        assert_eq!(call(1, 120_000, 9_999), 31);
+        assert_eq!(call(1, 120_000, 50_000_001), 32);
+        assert_eq!(call(1, 120_000, 500_000), 12);
+    }
+}
+
+/// 12 comes after 32 and before 4, at a good slot and a bad one, and nothing is written to the book.
+#[test]
+fn sides_that_are_neither_with_a_book() {
+    let mut book = [7; BOOK_LENGTH];
+    for (side, slot) in NO_SIDES.map(|side| [(side, 5), (side, 64)]).concat() {
+        let call = |pascals, book: &mut [u32]| {
+            let mut figures = [7; SIDE_FIGURES];
+            let number =
+                boundary::side_with_book(1, 120_000, pascals, side, slot, book, &mut figures);
+            assert_eq!(figures, [0; SIDE_FIGURES]);
+            number
+        };
+        assert_eq!(call(50_000_001, &mut book), 32);
+        assert_eq!(call(500_000, &mut book), 12);
+        assert_eq!(call(500_000, &mut book[..63]), 12);
+    }
+    assert_eq!(book, [7; BOOK_LENGTH]);
+}
+
+/// Whichever side is named, the gas root is written.
+#[test]
+fn slots_of_the_book_with_a_side() {
+    for (which, expected) in [
+        (Side::Gas, one_side(92_696, 17_299)),
+        (Side::Dense, one_side(1699, 943_832)),
+    ] {
+        let call = |slot, book: &mut [u32]| {
+            side_with_book(Fluid::Oxygen, 120_000, 500_000, which, slot, book)
+        };
+        let mut book = [7; BOOK_LENGTH];
+        assert_eq!(call(64, &mut book), Err(Refusal::NoSuchSlot));
+        assert_eq!(call(0, &mut book[..63]), Err(Refusal::NoSuchSlot));
+        assert_eq!(book, [7; BOOK_LENGTH]);
+        // the second time the gas root is what the call starts from
+        for _ in 0..2 {
+            assert_eq!(call(63, &mut book), Ok(expected));
+            assert_eq!((&book[..63], book[63]), (&[7; 63][..], 92_696));
+        }
+    }
 }
 
 #[test]

@@ -2,6 +2,7 @@
 use mathlib.Core.Path.{_∙_}
 use native.Mathlib.Omega.{arith}
 use Prim.Native.Nat.{_≤_}
+use Rattle.texts.specs.Buffer.{mostDigits}
 use Rattle.texts.proofs.Buffers.{seen-as, wider}
 use Rattle.texts.proofs.Digits.{no-more-digits}
 use borrow.Author.Needs.{needs}
@@ -17,8 +18,8 @@ array-share-prefix-digits c = search needs
 slice-aggregate-put : tie.Need-slice-aggregate-put
 slice-aggregate-put c = search needs
 
-few : (c : tie.After-decimal) → c .decimal .result ≤ 20
-few c = no-more-digits (c .before .before .before .args .number) _ 20 (c .decimal .ensures .1 .0) (omega arith) (omega arith)
+few : (c : tie.After-decimal) → c .decimal .result ≤ mostDigits
+few c = no-more-digits (c .before .before .before .args .number) _ mostDigits (c .decimal .ensures .1 .0) (omega arith) (omega arith)
 
 put-requires : tie.Need-put-requires
 put-requires c κs = omega (arith, c .before .before .decimal .ensures .0, few (c .before .before))

@@ -5,48 +5,57 @@ use Rattle.wording.proofs.Replied.{replied}
 use Rattle.wording.proofs.state_text.Statement.{statement}
 use Rattle.wording.proofs.state_text.Tie as tie
 
+returns : tie.Need-returns
+returns c =
+    let told = c .before .before .before .before in
+    replied (told .before .ask .result) (told .before .ask .ensures) (told .figures .ensures) (c .line .ensures)
+    (λ text is-text. rw (ne-eqb _ _ (c .before .before .before .if1 .taken)) is-text)
+
+returns-2 : tie.Need-returns-2
+returns-2 c =
+    let told = c .before .before .before .before .before in
+    replied (told .before .ask .result) (told .before .ask .ensures) (told .figures .ensures) (c .line2 .ensures)
+    (λ text is-text. rw (eq-eqb _ _ (c .before .before .before .before .if1 .left), eq-eqb _ _ (c .before .before .before .if2 .taken)) is-text)
+
+returns-3 : tie.Need-returns-3
+returns-3 c =
+    let told = c .before .before .before .before .before in
+    replied (told .before .ask .result) (told .before .ask .ensures) (told .figures .ensures) (c .line3 .ensures)
+    (λ text is-text. rw (eq-eqb _ _ (c .before .before .before .before .if1 .left), ne-eqb _ _ (c .before .before .before .if2 .left)) is-text)
+
 ask-requires : tie.Need-ask-requires
 ask-requires c κs = search needs
 
 figures-requires : tie.Need-figures-requires
 figures-requires c κs = search needs
 
-slice-aggregate-one-number : tie.Need-slice-aggregate-one-number
-slice-aggregate-one-number c = search needs
+slice-aggregate-line : tie.Need-slice-aggregate-line
+slice-aggregate-line c = search needs
 
-one-number-requires : tie.Need-one-number-requires
-one-number-requires c κs = search needs
+slice-aggregate-line-2 : tie.Need-slice-aggregate-line-2
+slice-aggregate-line-2 c = search needs
 
-returns : tie.Need-returns
-returns c =
-    let told = c .before .before .before in
-    replied (told .before .ask .result) (told .before .ask .ensures) (told .figures .ensures) (c .one-number .ensures)
-    (λ text is-text. rw (ne-eqb _ _ (c .before .before .if1 .taken)) is-text)
+line-requires : tie.Need-line-requires
+line-requires c κs = search needs
 
-slice-aggregate-two-numbers : tie.Need-slice-aggregate-two-numbers
-slice-aggregate-two-numbers c = search needs
+slice-aggregate-line-3 : tie.Need-slice-aggregate-line-3
+slice-aggregate-line-3 c = search needs
 
-two-numbers-requires : tie.Need-two-numbers-requires
-two-numbers-requires c κs = search needs
+slice-aggregate-line-4 : tie.Need-slice-aggregate-line-4
+slice-aggregate-line-4 c = search needs
 
-returns-2 : tie.Need-returns-2
-returns-2 c =
-    let told = c .before .before .before .before in
-    replied (told .before .ask .result) (told .before .ask .ensures) (told .figures .ensures) (c .two-numbers .ensures)
-    (λ text is-text. rw (eq-eqb _ _ (c .before .before .before .if1 .left), eq-eqb _ _ (c .before .before .if2 .taken)) is-text)
+line-requires-2 : tie.Need-line-requires-2
+line-requires-2 c κs = search needs
 
-slice-aggregate-two-numbers-2 : tie.Need-slice-aggregate-two-numbers-2
-slice-aggregate-two-numbers-2 c = search needs
+slice-aggregate-line-5 : tie.Need-slice-aggregate-line-5
+slice-aggregate-line-5 c = search needs
 
-two-numbers-requires-2 : tie.Need-two-numbers-requires-2
-two-numbers-requires-2 c κs = search needs
+slice-aggregate-line-6 : tie.Need-slice-aggregate-line-6
+slice-aggregate-line-6 c = search needs
 
-returns-3 : tie.Need-returns-3
-returns-3 c =
-    let told = c .before .before .before .before in
-    replied (told .before .ask .result) (told .before .ask .ensures) (told .figures .ensures) (c .two-numbers2 .ensures)
-    (λ text is-text. rw (eq-eqb _ _ (c .before .before .before .if1 .left), ne-eqb _ _ (c .before .before .if2 .left)) is-text)
+line-requires-3 : tie.Need-line-requires-3
+line-requires-3 c κs = search needs
 
 pub state-text-spec : {M : Type 1} → statement M
 state-text-spec =
-    tie.close (tie.spec ask-requires figures-requires slice-aggregate-one-number one-number-requires returns slice-aggregate-two-numbers two-numbers-requires returns-2 slice-aggregate-two-numbers-2 two-numbers-requires-2 returns-3)
+    tie.close (tie.spec ask-requires figures-requires slice-aggregate-line slice-aggregate-line-2 line-requires returns slice-aggregate-line-3 slice-aggregate-line-4 line-requires-2 returns-2 slice-aggregate-line-5 slice-aggregate-line-6 line-requires-3 returns-3)

@@ -1,19 +1,20 @@
-//! Books that hold anything, of right and wrong lengths, and books that many calls share.
+//! Books that hold anything, of right and wrong lengths, and books that many calls share, of the whole form
+//! and of the one that names a side.
 
-use super::{unit, WORKED};
+use super::{unit, NO_SIDES, WORKED};
 use crate::call::Call;
 use crate::comparison::{Comparison, Outcome};
 use crate::workers::Unit;
 use second::cubic::N;
 use second::random::Random;
-use second::state::{critical, put_into_book, reduced, BOOK};
+use second::state::{critical, put_into_book, put_side_into_book, reduced, BOOK, DENSE, GAS};
 
 const PART: &str = "books";
 
-const LENGTHS: [usize; 9] = [0, 1, 2, 32, 63, 64, 65, 128, 1000];
+pub const LENGTHS: [usize; 9] = [0, 1, 2, 32, 63, 64, 65, 128, 1000];
 
 /// On both sides of the last slot, and what is one to whoever keeps 32 bits.
-const SLOTS: [u64; 10] = [
+pub const SLOTS: [u64; 10] = [
     0,
     1,
     62,
@@ -46,10 +47,10 @@ const OTHERS: [[u64; 3]; 15] = [
 ];
 
 /// Past the told length, so that a number written there shows.
-const BEHIND: usize = 2;
+pub const BEHIND: usize = 2;
 
 const CHAINS: u64 = 8;
-const CALLS_OF_A_CHAIN: usize = 4000;
+const CALLS_OF_A_CHAIN: usize = 8000;
 
 pub fn units() -> Vec<Unit> {
     let states = WORKED.into_iter().chain(OTHERS);
@@ -69,14 +70,29 @@ fn every_book(comparison: &mut Comparison, state: [u64; 3]) -> Outcome {
         for slot in SLOTS {
             for &start in &starts {
                 let mut book = vec![start; length + BEHIND];
-                comparison.ask(Call::state_with_book(state, slot, &book, length))?;
+                every_form(comparison, state, slot, &book, length)?;
                 book.fill_with(|| random.number() as u32);
                 if let Some(number) = book.get_mut(slot as usize) {
                     *number = start;
                 }
-                comparison.ask(Call::state_with_book(state, slot, &book, length))?;
+                every_form(comparison, state, slot, &book, length)?;
             }
         }
+    }
+    Ok(())
+}
+
+/// The whole state and each of its sides, from the same book.
+fn every_form(
+    comparison: &mut Comparison,
+    state: [u64; 3],
+    slot: u64,
+    book: &[u32],
+    length: usize,
+) -> Outcome {
+    comparison.ask(Call::state_with_book(state, slot, book, length))?;
+    for side in [GAS, DENSE] {
+        comparison.ask(Call::side_with_book(state, side, slot, book, length))?;
     }
     Ok(())
 }
@@ -108,7 +124,8 @@ fn starting_points(comparison: &mut Comparison, state: [u64; 3], random: &mut Ra
     starts
 }
 
-/// Calls on one book, as a page makes them: each finds what those before it wrote. Some are refused.
+/// Calls of both forms on one book, as a page makes them: each finds what those before it wrote. Some are
+/// refused.
 fn chain(comparison: &mut Comparison, seed: u64) -> Outcome {
     let mut random = Random(seed);
     let mut book: Vec<u32> = (0..BOOK).map(|_| random.number() as u32).collect();
@@ -119,8 +136,19 @@ fn chain(comparison: &mut Comparison, seed: u64) -> Outcome {
         // a small step away, as from one reading to the next
         state[2] += any >> 60;
         let slot = (any >> 32) % (BOOK as u64 + 4);
-        comparison.ask(Call::state_with_book(state, slot, &book, BOOK))?;
-        put_into_book(comparison.second().reply(state), slot, &mut book);
+        let neither = NO_SIDES[random.number() as usize % NO_SIDES.len()];
+        let form = [None, Some(GAS), Some(DENSE), Some(neither)][random.number() as usize % 4];
+        let whole = comparison.second().reply(state);
+        match form {
+            None => {
+                comparison.ask(Call::state_with_book(state, slot, &book, BOOK))?;
+                put_into_book(whole, slot, &mut book);
+            }
+            Some(side) => {
+                comparison.ask(Call::side_with_book(state, side, slot, &book, BOOK))?;
+                put_side_into_book(whole, side, slot, &mut book);
+            }
+        }
     }
     Ok(())
 }

@@ -1,12 +1,12 @@
-//! States of all kinds, each without a book and with one: document 01's, every end of a range, and a
-//! spread over all temperatures and all magnitudes of pressure.
+//! States of all kinds, each whole and by its sides, without a book and with one: document 01's, every end
+//! of a range, and a spread over all temperatures and all magnitudes of pressure.
 
 use super::{unit, FLUIDS, WORKED};
 use crate::call::Call;
 use crate::comparison::{Comparison, Outcome};
 use crate::workers::Unit;
 use second::random::Random;
-use second::state::{BOOK, HIGHEST_PRESSURE, HOTTEST, LOWEST_PRESSURE};
+use second::state::{BOOK, DENSE, GAS, HIGHEST_PRESSURE, HOTTEST, LOWEST_PRESSURE};
 
 const PART: &str = "states";
 
@@ -15,10 +15,10 @@ const STATES: usize = 2500;
 const UNITS: u64 = 72;
 
 /// No fluid but the first two, though the fifth and sixth are those to whoever keeps 32 bits.
-const FLUID_NUMBERS: [u64; 7] = [0, 1, 2, 3, 1 << 32, (1 << 32) + 1, u64::MAX];
+pub const FLUID_NUMBERS: [u64; 7] = [0, 1, 2, 3, 1 << 32, (1 << 32) + 1, u64::MAX];
 
 /// The ends with their neighbours, and what is in range for whoever keeps 32 bits.
-const TEMPERATURES: [u64; 21] = [
+pub const TEMPERATURES: [u64; 21] = [
     0,
     1,
     13_998,
@@ -42,7 +42,7 @@ const TEMPERATURES: [u64; 21] = [
     u64::MAX,
 ];
 
-const PRESSURES: [u64; 18] = [
+pub const PRESSURES: [u64; 18] = [
     0,
     1,
     9_998,
@@ -70,9 +70,10 @@ pub fn units() -> Vec<Unit> {
     units
 }
 
-/// Without a book and with one, at any slot of it. The book is empty, as a page begins with, or holds one
-/// number about as large as a root, or, as often as both, anything.
-pub fn both(comparison: &mut Comparison, state: [u64; 3], random: &mut Random) -> Outcome {
+/// The whole state and each of its sides, without a book and with one, at any slot of it. The book is
+/// empty, as a page begins with, or holds one number about as large as a root, or, as often as both,
+/// anything.
+pub fn every_form(comparison: &mut Comparison, state: [u64; 3], random: &mut Random) -> Outcome {
     comparison.ask(Call::state(state))?;
     let any = random.number();
     let book: [u32; BOOK] = match any % 4 {
@@ -81,13 +82,18 @@ pub fn both(comparison: &mut Comparison, state: [u64; 3], random: &mut Random) -
         _ => [(); BOOK].map(|()| random.number() as u32),
     };
     let slot = (any >> 32) % BOOK as u64;
-    comparison.ask(Call::state_with_book(state, slot, &book, BOOK))
+    comparison.ask(Call::state_with_book(state, slot, &book, BOOK))?;
+    for side in [GAS, DENSE] {
+        comparison.ask(Call::side(state, side))?;
+        comparison.ask(Call::side_with_book(state, side, slot, &book, BOOK))?;
+    }
+    Ok(())
 }
 
 fn worked_points(comparison: &mut Comparison) -> Outcome {
     let mut random = Random(0);
     for state in WORKED {
-        both(comparison, state, &mut random)?;
+        every_form(comparison, state, &mut random)?;
     }
     Ok(())
 }
@@ -97,7 +103,7 @@ fn ends(comparison: &mut Comparison, fluid: u64) -> Outcome {
     let mut random = Random(fluid);
     for millikelvin in TEMPERATURES {
         for pascals in PRESSURES {
-            both(comparison, [fluid, millikelvin, pascals], &mut random)?;
+            every_form(comparison, [fluid, millikelvin, pascals], &mut random)?;
         }
     }
     Ok(())
@@ -110,7 +116,7 @@ fn spread(comparison: &mut Comparison, seed: u64) -> Outcome {
     for (fluid, coldest, _) in FLUIDS.into_iter().cycle().take(STATES) {
         let millikelvin = within(&mut random, coldest, HOTTEST);
         let pascals = within(&mut random, LOWEST_PRESSURE, HIGHEST_PRESSURE);
-        both(comparison, [fluid, millikelvin, pascals], &mut random)?;
+        every_form(comparison, [fluid, millikelvin, pascals], &mut random)?;
     }
     Ok(())
 }

@@ -19,6 +19,8 @@ const SHORT: &[(&str, &[u8])] = &[
     ("no_states", b"0\n0\n"),
     ("hydrogen_alone", b"1\n300000 1000000\n0\n"),
     ("oxygen_alone", b"0\n1\n120000 500000\n"),
+    // near the critical point all four figures of a SPLIT line are long
+    ("split_long_figures", b"0\n1\n150000 4200000\n"),
     ("zeros", b"1\n0 0\n1\n0 0\n"),
     ("out_of_range", b"1\n13999 9999\n1\n56000 9999\n"),
     ("ten_digits_temperature", b"1\n9999999999 1000000\n0\n"),

@@ -1,8 +1,8 @@
--- `state::start_in` is safe: it reads within the book, a number of 32 bits. Assumes nothing.
+-- `calls::start_in` is safe: it reads within the book, a number of 32 bits. Assumes nothing.
 use native.Mathlib.Omega.{arith}
 use borrow.Author.Needs.{needs}
-use Rattle.state.proofs.start_in.Statement.{statement}
-use Rattle.state.proofs.start_in.Tie as tie
+use Rattle.calls.proofs.start_in.Statement.{statement}
+use Rattle.calls.proofs.start_in.Tie as tie
 
 mul-result : tie.Need-mul-result
 mul-result c = search needs

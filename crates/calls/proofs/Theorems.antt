@@ -1,0 +1,57 @@
+-- Two answers that keep what `find` or `find_with_book` promises are equal, and so are the books they leave; every check of a call can be
+-- decided. Assumes nothing.
+use mathlib.Core.Path.{_≡_, refl, sym, ap, _∙_}
+use mathlib.Core.Logic.{_⊎_, inl, inr, ⊎-elim}
+use mathlib.Core.List.{List, _++_}
+use Prim.Native.Nat.{ℕ, _<_}
+use native.Mathlib.Decide.{decLt, ℕ-discrete}
+use lib.ListN.{length}
+use Rattle.refusals.specs.declared.Refusal.the-variants.{NoSuchSide, NoSuchSlot}
+use Rattle.refusals.proofs.Theorems.{EachDecided, decided-both}
+use Rattle.replies.specs.Sides.{gas, dense}
+use Rattle.fluid.specs.Checks.{stateChecks}
+use Rattle.fluid.proofs.Accepting.{state-decided}
+use Rattle.roots.specs.declared.Finding.{Finding}
+use Rattle.roots.specs.Promise.{finding}
+use Rattle.roots.proofs.Theorems.{finding-once}
+use Rattle.calls.specs.declared.Form.{Form}
+use Rattle.calls.specs.declared.Form.the-variants.{Whole, Side}
+use Rattle.calls.specs.Checks.{formChecks, slotChecks}
+use Rattle.calls.specs.Promise.{FindsAs, bookWith, FindsWithBook}
+
+module _ (form : Form) (number millikelvin pascals : ℕ) where
+  pub finding-determined : (r s : Finding) → FindsAs form number millikelvin pascals (finding r) → FindsAs form number millikelvin pascals (finding s) → r ≡ s
+  finding-determined = finding-once number millikelvin pascals (stateChecks number millikelvin pascals ++ formChecks form)
+
+  pub finding-with-book-determined : (slot : ℕ) (book : List ℕ) (r s : Finding) (after after′ : List ℕ) → FindsWithBook form number millikelvin pascals slot book (finding r) after → FindsWithBook form number millikelvin pascals slot book (finding s) after′ → (r ≡ s) × (after ≡ after′)
+  finding-with-book-determined slot book r s after after′ p q =
+      let checks = stateChecks number millikelvin pascals ++ formChecks form ++ slotChecks slot (length book) in
+      let same : r ≡ s = finding-once number millikelvin pascals checks r s (p .finds) (q .finds) in
+      (same, p .leaves ∙ ap (λ (f : Finding). bookWith book slot (finding f)) same ∙ sym (q .leaves))
+
+form-decided : (form : Form) → EachDecided (formChecks form)
+form-decided Whole = tt
+form-decided (Side side) = (record { refusal = NoSuchSide; is-number = refl; decide = neither (ℕ-discrete side gas) (ℕ-discrete side dense) }, tt)
+  where
+    neither : Dec (side ≡ gas) → Dec (side ≡ dense) → Dec ((side ≡ gas → ⊥) × (side ≡ dense → ⊥))
+    neither (yes same) other = no (λ none. none .0 same)
+    neither (no f) (yes same) = no (λ none. none .1 same)
+    neither (no f) (no f′) = yes (f, f′)
+
+slot-decided : (slot length : ℕ) → EachDecided (slotChecks slot length)
+slot-decided slot length = (record { refusal = NoSuchSlot; is-number = refl; decide = either (ℕ-discrete length 64) (decLt 63 slot) }, tt)
+  where
+    either : Dec (length ≡ 64) → Dec (63 < slot) → Dec ((length ≡ 64 → ⊥) ⊎ (63 < slot))
+    either (no f) past = yes (inl f)
+    either (yes same) (yes past) = yes (inr past)
+    either (yes same) (no f) = no (⊎-elim (λ differs. differs same) f)
+
+-- all checks of a call, without a book and with one
+module _ (form : Form) (number millikelvin pascals : ℕ) where
+  pub call-decided : EachDecided (stateChecks number millikelvin pascals ++ formChecks form)
+  call-decided =
+      decided-both (stateChecks number millikelvin pascals) (formChecks form) (state-decided number millikelvin pascals) (form-decided form)
+
+  pub call-with-book-decided : (slot length : ℕ) → EachDecided (stateChecks number millikelvin pascals ++ formChecks form ++ slotChecks slot length)
+  call-with-book-decided slot length =
+      decided-both (stateChecks number millikelvin pascals ++ formChecks form) (slotChecks slot length) call-decided (slot-decided slot length)

@@ -1,0 +1,40 @@
+// The reply to a caller who names a side (document 02, C-18).
+ghost use mathlib.Core.Path.{_≡_};
+ghost use Rattle.replies.specs.Sides.{sideFiguresOf};
+use refusals::Refusal;
+
+// The sides' numbers.
+pub const GAS: u64 = 0;
+
+pub const DENSE: u64 = 1;
+
+pub enum SideReply {
+    Answered { root: u64, density: u64 },
+    Refused(Refusal),
+}
+
+// The paper's number of the reply, and its two figures.
+pub struct SideFigures {
+    pub number: u64,
+    pub root: u64,
+    pub density: u64,
+}
+
+impl SideReply {
+    pub fn figures(self) -> SideFigures
+        ensures { λ r. ⌜ r ≡ sideFiguresOf self ⌝ }
+    {
+        match self {
+            SideReply::Answered { root, density } => SideFigures {
+                number: 0,
+                root,
+                density,
+            },
+            SideReply::Refused(refusal) => SideFigures {
+                number: refusal.number(),
+                root: 0,
+                density: 0,
+            },
+        }
+    }
+}

@@ -1,0 +1,84 @@
+//! Sides of any number, together with all else that can be refused: a state, a slot, a book's length.
+
+use super::books::{BEHIND, LENGTHS, SLOTS};
+use super::states::{FLUID_NUMBERS, PRESSURES, TEMPERATURES};
+use super::{unit, NO_SIDES, WORKED};
+use crate::call::Call;
+use crate::comparison::{Comparison, Outcome};
+use crate::workers::Unit;
+use second::random::Random;
+use second::state::{BOOK, DENSE, GAS};
+
+const PART: &str = "sides";
+
+/// Besides the worked ones: hydrogen where it is SPLIT, and the refusals that no worked state has.
+const OTHERS: [[u64; 3]; 4] = [
+    [0, 25_000, 200_000],
+    [0, 1_000_001, u64::MAX],
+    [1, u64::MAX, 500_000],
+    [1, 120_000, 50_000_001],
+];
+
+/// For each of those states.
+const ANY_SIDES: usize = 1000;
+
+pub fn units() -> Vec<Unit> {
+    let at_the_ends =
+        FLUID_NUMBERS.map(|fluid| unit(PART, move |comparison| ends(comparison, fluid)));
+    let mut units = Vec::from(at_the_ends);
+    for state in WORKED.into_iter().chain(OTHERS) {
+        units.push(unit(PART, move |comparison| every_side(comparison, state)));
+        units.push(unit(PART, move |comparison| any_sides(comparison, state)));
+    }
+    units
+}
+
+/// A side that is neither at all combinations of the ends of the ranges: without a book, with one at its
+/// last slot, past it, and with one that is a number too short.
+fn ends(comparison: &mut Comparison, fluid: u64) -> Outcome {
+    let mut random = Random(fluid);
+    for millikelvin in TEMPERATURES {
+        for pascals in PRESSURES {
+            let state = [fluid, millikelvin, pascals];
+            for side in NO_SIDES {
+                comparison.ask(Call::side(state, side))?;
+                let book = any_book(BOOK, &mut random);
+                for (slot, length) in [(63, BOOK), (64, BOOK), (0, BOOK - 1)] {
+                    comparison.ask(Call::side_with_book(state, side, slot, &book, length))?;
+                }
+            }
+        }
+    }
+    Ok(())
+}
+
+/// Gas, dense and what is neither with every length and slot.
+fn every_side(comparison: &mut Comparison, state: [u64; 3]) -> Outcome {
+    let mut random = Random(state[1] ^ state[2]);
+    for length in LENGTHS {
+        for slot in SLOTS {
+            let book = any_book(length + BEHIND, &mut random);
+            for side in [GAS, DENSE].into_iter().chain(NO_SIDES) {
+                comparison.ask(Call::side_with_book(state, side, slot, &book, length))?;
+            }
+        }
+    }
+    Ok(())
+}
+
+/// Sides of all magnitudes, without a book and with one.
+fn any_sides(comparison: &mut Comparison, state: [u64; 3]) -> Outcome {
+    let mut random = Random(state[1] ^ state[2]);
+    for _ in 0..ANY_SIDES {
+        let side = random.number() >> (random.number() % 64);
+        let slot = random.number() % BOOK as u64;
+        let book = any_book(BOOK, &mut random);
+        comparison.ask(Call::side(state, side))?;
+        comparison.ask(Call::side_with_book(state, side, slot, &book, BOOK))?;
+    }
+    Ok(())
+}
+
+fn any_book(length: usize, random: &mut Random) -> Vec<u32> {
+    (0..length).map(|_| random.number() as u32).collect()
+}
