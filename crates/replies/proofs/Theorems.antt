@@ -11,7 +11,7 @@ use Rattle.replies.specs.declared.sides.SideReply.{SideReply}
 use Rattle.replies.specs.declared.sides.SideReply.the-variants as Side
 use Rattle.replies.specs.declared.sides.SideFigures.{SideFigures}
 use Rattle.replies.specs.Figures.{numberOfKind, refusedWith, figuresOf}
-use Rattle.replies.specs.Sides.{gas, dense, forSide, figuresFor, sideRefusedWith, sideFiguresOf}
+use Rattle.replies.specs.Sides.{gas, dense, forSide, figuresFor, SideOf, sideRefusedWith, sideFiguresOf}
 
 -- the way back from figures to their reply
 ofKind : (kind : ℕ) → Figures → Reply
@@ -42,11 +42,10 @@ refused-carries-zeros (Split gas dense gas-density dense-density) refused = absu
 refused-carries-zeros (Refused refusal) refused = refl
 
 -- ---- a side's reply
-numberOf : SideFigures → ℕ
+abbrev numberOf : SideFigures → ℕ
 numberOf figures = figures .number
 
 pub figures-determine-side-reply : (r s : SideReply) → sideFiguresOf r ≡ sideFiguresOf s → r ≡ s
-unfolding numberOf
 figures-determine-side-reply (Side.Answered root density) (Side.Answered root′ density′) same =
     ap₂ Side.Answered (ap (λ (f : SideFigures). f .root) same) (ap (λ (f : SideFigures). f .density) same)
 figures-determine-side-reply (Side.Answered root density) (Side.Refused refusal) same = absurd (never-zero refusal (sym (ap numberOf same)))
@@ -71,7 +70,7 @@ equal-for-both : (side figure : ℕ) → forSide side figure figure ≡ figure
 equal-for-both zero figure = refl
 equal-for-both (suc side) figure = refl
 
-pub refused-for-side : (side refusal : ℕ) → sideRefusedWith refusal ≡ figuresFor side (refusedWith refusal)
+refused-for-side : (side refusal : ℕ) → sideRefusedWith refusal ≡ figuresFor side (refusedWith refusal)
 refused-for-side side refusal = rw (equal-for-both side 0) refl
 
 -- a side of every reply is the reply to a caller who names that side
@@ -79,3 +78,13 @@ pub side-shown : (side : ℕ) (reply : Reply) → (shown : SideReply) × (sideFi
 side-shown side (One root grams) = (Side.Answered root grams, rw (equal-for-both side root, equal-for-both side grams) refl)
 side-shown side (Split gas dense gas-density dense-density) = (Side.Answered (forSide side gas dense) (forSide side gas-density dense-density), refl)
 side-shown side (Refused refusal) = (Side.Refused refusal, refused-for-side side _)
+
+-- where one whole reply is possible, a side is told one thing; what holds of the whole reply may be said otherwise; and a refused one has its sides
+pub side-once : {side : ℕ} {Holds : Figures → Type 0} {told other : SideFigures} → ((f g : Figures) → Holds f → Holds g → f ≡ g) → SideOf side Holds told → SideOf side Holds other → told ≡ other
+side-once {side} once p q = p .is-told ∙ ap (figuresFor side) (once (p .whole) (q .whole) (p .holds) (q .holds)) ∙ sym (q .is-told)
+
+pub side-as : {side : ℕ} {Holds Other : Figures → Type 0} {told : SideFigures} → ((whole : Figures) → Holds whole → Other whole) → SideOf side Holds told → SideOf side Other told
+side-as so p = record { whole = p .whole; holds = so (p .whole) (p .holds); is-told = p .is-told }
+
+pub side-refused : (side refusal : ℕ) {Holds : Figures → Type 0} → Holds (refusedWith refusal) → SideOf side Holds (sideRefusedWith refusal)
+side-refused side refusal holds = record { whole = refusedWith refusal; holds = holds; is-told = refused-for-side side refusal }

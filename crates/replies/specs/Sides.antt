@@ -1,4 +1,5 @@
 -- Document 02, C-18: a caller names a side, gas or dense, and gets what the whole reply has for it: its root and its density.
+use mathlib.Core.Path.{_≡_}
 use Prim.Native.Nat.{ℕ, zero, suc}
 use Rattle.refusals.specs.Numbers.{numberOfRefusal}
 use Rattle.replies.specs.declared.Figures.{Figures}
@@ -26,6 +27,12 @@ figuresFor side whole =
       root = forSide side (whole .«gas_root») (whole .«dense_root»);
       density = forSide side (whole .«gas_density») (whole .«dense_density»);
     }
+
+-- a side is told what a whole reply, of which this holds, has for it
+pub record SideOf (side : ℕ) (Holds : Figures → Type 0) (told : SideFigures) : Type 0 where
+  pub whole : Figures
+  pub holds : Holds whole
+  pub is-told : told ≡ figuresFor side whole
 
 abbrev pub sideRefusedWith : (refusal : ℕ) → SideFigures
 sideRefusedWith refusal = record { number = refusal; root = 0; density = 0 }

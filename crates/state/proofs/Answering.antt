@@ -24,10 +24,10 @@ use Rattle.calls.specs.Checks.{formChecks, slotChecks}
 use Rattle.calls.specs.Promise.{FindsWithBook}
 use Rattle.replies.specs.declared.Figures.{Figures}
 use Rattle.replies.specs.Figures.{numberOfKind, refusedWith}
-use Rattle.replies.specs.Sides.{gas, forSide}
+use Rattle.replies.specs.Sides.{gas, forSide, SideOf}
 use Rattle.state.specs.Replies.{Told}
 use Rattle.state.specs.Book.{ifKind, bookAfter, CalledAs}
-use Rattle.state.specs.Inside.{Weighty, Reported, ReportedForSide}
+use Rattle.state.specs.Inside.{Weighty, Reported}
 
 module _ {fluid : Fluid} {millikelvin pascals : ℕ} {reduced : Reduced} (accepted : Accepted fluid millikelvin pascals) (reduces : Reduces fluid millikelvin pascals reduced) where
   weighable : {z : ℕ} → Crossing (reduced .a) (reduced .b) z → Weighable millikelvin pascals z
@@ -56,10 +56,10 @@ module _ {millikelvin pascals gas dense : ℕ} where
   weighable-for zero weighty = weighty .gas-fits
   weighable-for (suc side) weighty = weighty .dense-fits
 
-  pub reported-for : (fluid : Fluid) (side root grams : ℕ) → root ≡ forSide side gas dense → grams ≡ density fluid millikelvin pascals root → ReportedForSide fluid millikelvin pascals side gas dense (record { number = 0; root = root; density = grams })
+  pub reported-for : (fluid : Fluid) (side root grams : ℕ) → root ≡ forSide side gas dense → grams ≡ density fluid millikelvin pascals root → SideOf side (Reported fluid millikelvin pascals gas dense) (record { number = 0; root = root; density = grams })
   reported-for fluid side root grams is-root is-density =
       let kind = kind-exists gas dense in
-      record { whole = _; reported = record { kind = kind .0; is-kind = kind .1; is-figures = refl }; is-told = rw (is-density, is-root, weighed-for (density fluid millikelvin pascals) side gas dense) refl }
+      record { whole = _; holds = record { kind = kind .0; is-kind = kind .1; is-figures = refl }; is-told = rw (is-density, is-root, weighed-for (density fluid millikelvin pascals) side gas dense) refl }
 
 -- an answered call writes, whichever kind it has
 writes : (kind : Kind) (written before : List ℕ) → ifKind (numberOfKind kind) written before ≡ written

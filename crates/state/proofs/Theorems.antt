@@ -24,7 +24,7 @@ use Rattle.replies.specs.declared.Figures.{Figures}
 use Rattle.replies.specs.declared.sides.SideFigures.{SideFigures}
 use Rattle.replies.specs.Figures.{numberOfKind, figuresOf}
 use Rattle.replies.specs.Sides.{gas, dense, figuresFor, sideFiguresOf}
-use Rattle.replies.proofs.Theorems.{figures-determine-reply, figures-determine-side-reply, one-for-both-sides, side-shown}
+use Rattle.replies.proofs.Theorems.{figures-determine-reply, figures-determine-side-reply, one-for-both-sides, side-shown, side-once}
 use Rattle.calls.specs.declared.Form.{Form}
 use Rattle.calls.specs.declared.Form.the-variants.{Whole, Side}
 use Rattle.calls.specs.Checks.{formChecks, slotChecks, Placed}
@@ -88,23 +88,22 @@ module _ (number millikelvin pascals : ℕ) where
   module _ (side : ℕ) where
     pub side-determined : (r s : SideReply) → RepliesForSide number millikelvin pascals side (sideFiguresOf r) → RepliesForSide number millikelvin pascals side (sideFiguresOf s) → r ≡ s
     side-determined r s p q =
-        let same = same-told number millikelvin pascals (formChecks (Side side)) (p .whole) (q .whole) (p .replies) (q .replies) in
-        figures-determine-side-reply r s (p .is-told ∙ ap (figuresFor side) same ∙ sym (q .is-told))
+        figures-determine-side-reply r s (side-once (same-told number millikelvin pascals (formChecks (Side side))) p q)
 
     -- a side that there is gets just what the whole reply has for it,
     module _ (named : NoneOf (formChecks (Side side))) {whole : Figures} {told : SideFigures} where
       pub side-of-whole : Replies number millikelvin pascals whole → RepliesForSide number millikelvin pascals side told → told ≡ figuresFor side whole
       side-of-whole p q =
-          let replies : Replies number millikelvin pascals (q .whole) = tells-without (stateChecks number millikelvin pascals) (formChecks (Side side)) named (q .replies) in
+          let replies : Replies number millikelvin pascals (q .whole) = tells-without (stateChecks number millikelvin pascals) (formChecks (Side side)) named (q .holds) in
           q .is-told ∙ ap (figuresFor side) (same-told number millikelvin pascals [] (q .whole) whole replies p)
 
       -- with a book too, and the book is left as by the whole call
       pub side-of-whole-with-book : {slot : ℕ} {book after after′ : List ℕ} → Called number millikelvin pascals slot book whole after → CalledForSide number millikelvin pascals side slot book told after′ → (told ≡ figuresFor side whole) × (after ≡ after′)
       side-of-whole-with-book {slot} {book} p q =
           let more = slotChecks slot (length book) in
-          let replies : Told number millikelvin pascals more (q .whole) = tells-without-between (stateChecks number millikelvin pascals) (formChecks (Side side)) more named (q .called .replies) in
+          let replies : Told number millikelvin pascals more (q .whole) = tells-without-between (stateChecks number millikelvin pascals) (formChecks (Side side)) more named (q .holds .replies) in
           let same : q .whole ≡ whole = same-told number millikelvin pascals more (q .whole) whole replies (p .replies) in
-          (q .is-told ∙ ap (figuresFor side) same, p .leaves ∙ sym (q .called .leaves ∙ ap (bookAfter book slot) same))
+          (q .is-told ∙ ap (figuresFor side) same, p .leaves ∙ sym (q .holds .leaves ∙ ap (bookAfter book slot) same))
 
   -- both sides of a ONE state get the same
   pub one-has-equal-sides : (r : Reply) (of-gas of-dense : SideReply) → Replies number millikelvin pascals (figuresOf r) → figuresOf r .kind ≡ numberOfKind ONE → RepliesForSide number millikelvin pascals gas (sideFiguresOf of-gas) → RepliesForSide number millikelvin pascals dense (sideFiguresOf of-dense) → of-gas ≡ of-dense
@@ -133,7 +132,7 @@ module _ (number millikelvin pascals : ℕ) where
 
   pub side-call-determined : (side slot : ℕ) (book : List ℕ) {r s : SideReply} {after after′ : List ℕ} → CalledForSide number millikelvin pascals side slot book (sideFiguresOf r) after → CalledForSide number millikelvin pascals side slot book (sideFiguresOf s) after′ → (r ≡ s) × (after ≡ after′)
   side-call-determined side slot book {r} {s} p q =
-      let same = called-once (Side side) number millikelvin pascals slot book (p .called) (q .called) in
+      let same = called-once (Side side) number millikelvin pascals slot book (p .holds) (q .holds) in
       (figures-determine-side-reply r s (p .is-told ∙ ap (figuresFor side) (same .0) ∙ sym (q .is-told)), same .1)
 
   -- where the book has the slot, a call without a book gives the same
@@ -148,7 +147,7 @@ module _ {number millikelvin pascals slot : ℕ} {book after : List ℕ} where
   whole-gets called = record { figures = _; after = after; called = called; shows = refl }
 
   pub side-gets : {side : ℕ} {reply : SideReply} → CalledForSide number millikelvin pascals side slot book (sideFiguresOf reply) after → Gets (record { fluid = number; millikelvin = millikelvin; pascals = pascals; form = Side side; slot = slot }) book reply
-  side-gets called = record { figures = called .whole; after = after; called = called .called; shows = called .is-told }
+  side-gets called = record { figures = called .whole; after = after; called = called .holds; shows = called .is-told }
 
 -- one call, on any two books of the same length, gets one answer
 pub same-on-any-book : (call : Call) (book other : List ℕ) → length book ≡ length other → {answer answer′ : AnswerTo (call .form)} → Gets call book answer → Gets call other answer′ → answer ≡ answer′
@@ -186,7 +185,7 @@ module _ (number millikelvin pascals : ℕ) where
   every-side-has-a-reply side =
       let whole = told number millikelvin pascals (formChecks (Side side)) (call-decided (Side side) number millikelvin pascals) in
       let shown = side-shown side (whole .0) in
-      (shown .0, record { whole = figuresOf (whole .0); replies = whole .1; is-told = shown .1 })
+      (shown .0, record { whole = figuresOf (whole .0); holds = whole .1; is-told = shown .1 })
 
 pub every-call-has-a-reply : (call : Call) (book : List ℕ) → (answer : AnswerTo (call .form)) × Gets call book answer
 every-call-has-a-reply call book =

@@ -10,7 +10,7 @@ use Rattle.calls.specs.declared.Form.the-variants.{Whole, Side}
 use Rattle.calls.specs.Checks.{formChecks, slotChecks}
 use Rattle.replies.specs.declared.Figures.{Figures}
 use Rattle.replies.specs.declared.sides.SideFigures.{SideFigures}
-use Rattle.replies.specs.Sides.{figuresFor}
+use Rattle.replies.specs.Sides.{SideOf}
 use Rattle.state.specs.Replies.{Told, RepliesAs}
 
 abbrev pub ifKind : (kind : ℕ) → (written before : List ℕ) → List ℕ
@@ -29,10 +29,9 @@ abbrev pub Called : (number millikelvin pascals slot : ℕ) (before : List ℕ) 
 Called = CalledAs Whole
 
 -- whichever side is named, the book is left as by a whole reply
-pub record CalledForSide (number millikelvin pascals side slot : ℕ) (before : List ℕ) (told : SideFigures) (after : List ℕ) : Type 0 where
-  pub whole : Figures
-  pub called : CalledAs (Side side) number millikelvin pascals slot before whole after
-  pub is-told : told ≡ figuresFor side whole
+abbrev pub CalledForSide : (number millikelvin pascals side slot : ℕ) (before : List ℕ) (told : SideFigures) (after : List ℕ) → Type 0
+CalledForSide number millikelvin pascals side slot before told after =
+    SideOf side (λ whole. CalledAs (Side side) number millikelvin pascals slot before whole after) told
 
 -- what a call of either form may tell, where none of its own checks applies: without a book, or with one, whatever it holds
 pub data Asked (number millikelvin pascals : ℕ) (figures : Figures) : Type 0 where

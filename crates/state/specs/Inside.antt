@@ -6,9 +6,7 @@ use Rattle.fluid.specs.declared.choice.Fluid.{Fluid}
 use Rattle.densities.specs.Densities.{density}
 use Rattle.densities.specs.Promise.{Weighable}
 use Rattle.replies.specs.declared.Figures.{Figures}
-use Rattle.replies.specs.declared.sides.SideFigures.{SideFigures}
 use Rattle.replies.specs.Figures.{answeredWith}
-use Rattle.replies.specs.Sides.{figuresFor}
 
 pub record Weighty (millikelvin pascals gas dense : ℕ) : Type 0 where
   pub gas-fits : Weighable millikelvin pascals gas
@@ -19,9 +17,3 @@ pub record Reported (fluid : Fluid) (millikelvin pascals gas dense : ℕ) (figur
   pub kind : Kind
   pub is-kind : IsKind gas dense kind
   pub is-figures : figures ≡ answeredWith kind gas dense (density fluid millikelvin pascals gas) (density fluid millikelvin pascals dense)
-
--- the figures are those for a side of a whole report
-pub record ReportedForSide (fluid : Fluid) (millikelvin pascals side gas dense : ℕ) (told : SideFigures) : Type 0 where
-  pub whole : Figures
-  pub reported : Reported fluid millikelvin pascals gas dense whole
-  pub is-told : told ≡ figuresFor side whole

@@ -14,7 +14,7 @@ use Rattle.calls.specs.Checks.{formChecks}
 use Rattle.replies.specs.declared.Figures.{Figures}
 use Rattle.replies.specs.declared.sides.SideFigures.{SideFigures}
 use Rattle.replies.specs.Figures.{answeredWith, refusedWith}
-use Rattle.replies.specs.Sides.{figuresFor}
+use Rattle.replies.specs.Sides.{SideOf}
 
 abbrev pub NumberAndZeros : (refusal : ℕ) → Figures → Type 0
 NumberAndZeros refusal figures = figures ≡ refusedWith refusal
@@ -38,7 +38,5 @@ RepliesAs form number millikelvin pascals = Told number millikelvin pascals (for
 abbrev pub Replies : (number millikelvin pascals : ℕ) → Figures → Type 0
 Replies = RepliesAs Whole
 
-pub record RepliesForSide (number millikelvin pascals side : ℕ) (told : SideFigures) : Type 0 where
-  pub whole : Figures
-  pub replies : RepliesAs (Side side) number millikelvin pascals whole
-  pub is-told : told ≡ figuresFor side whole
+abbrev pub RepliesForSide : (number millikelvin pascals side : ℕ) → SideFigures → Type 0
+RepliesForSide number millikelvin pascals side = SideOf side (RepliesAs (Side side) number millikelvin pascals)

@@ -4,8 +4,8 @@ ghost use mathlib.Core.Path.{_≡_};
 ghost use Rattle.densities.specs.Promise.{Weighable};
 ghost use Rattle.densities.specs.Densities.{density};
 ghost use Rattle.replies.specs.Figures.{figuresOf};
-ghost use Rattle.replies.specs.Sides.{forSide, sideFiguresOf};
-ghost use Rattle.state.specs.Inside.{Weighty, Reported, ReportedForSide};
+ghost use Rattle.replies.specs.Sides.{forSide, SideOf, sideFiguresOf};
+ghost use Rattle.state.specs.Inside.{Weighty, Reported};
 use densities::Density;
 use fluid::Fluid;
 use replies::GAS;
@@ -62,7 +62,7 @@ pub(crate) fn answer_side(
     dense: u64,
 ) -> SideReply
     requires { ⌜ Weighty millikelvin pascals gas dense ⌝ }
-    ensures { λ r. ⌜ ReportedForSide fluid millikelvin pascals side gas dense (sideFiguresOf r) ⌝ }
+    ensures { λ r. ⌜ SideOf side (Reported fluid millikelvin pascals gas dense) (sideFiguresOf r) ⌝ }
 {
     let root = root_for(side, gas, dense);
     let density = grams(fluid, millikelvin, pascals, root);

@@ -93,7 +93,7 @@ refused-side-lays-zeros {reply} laid refused =
 pub refused-side-changes-no-book : {fluid millikelvin pascals side slot number : ℕ} {book figures after : List ℕ} → SideBookAnswers fluid millikelvin pascals side slot book number figures after → (number ≡ 0 → ⊥) → after ≡ book
 refused-side-changes-no-book {side = side} p refused =
     state.refused-changes-nothing (Side side) _ _ _ _
-    (λ answered. refused (p .laid .is-number ∙ ap (λ (f : SideFigures). f .number) (p .called .is-told) ∙ answered)) (p .called .called)
+    (λ answered. refused (p .laid .is-number ∙ ap (λ (f : SideFigures). f .number) (p .called .is-told) ∙ answered)) (p .called .holds)
 
 -- ---- the heat capacity
 pub heat-determined : (kelvin : Float) (before number number′ after after′ : ℕ) → HeatAnswers kelvin before number after → HeatAnswers kelvin before number′ after′ → (number ≡ number′) × (after ≡ after′)

@@ -32,7 +32,7 @@ module _ (number millikelvin pascals : ℕ) (form : Form) (r : Finding) (found :
     named is-true = (none-both (stateChecks number millikelvin pascals) (formChecks form) (state .0) (rw is-true at stands), state .1)
 
     neither : stand ≡ false → FindsAs form number millikelvin pascals (finding (Finding.Refused NoSuchSide))
-    neither is-false = first-behind (stateChecks number millikelvin pascals) (formChecks form) 12 (state .0) (rw is-false at stands)
+    neither is-false = first-behind (stateChecks number millikelvin pascals) (formChecks form) (numberOfRefusal NoSuchSide) (state .0) (rw is-false at stands)
 
 returns : tie.Need-returns
 returns c = search (needs, passed-on, named, neither)

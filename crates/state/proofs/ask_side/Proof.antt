@@ -4,7 +4,7 @@ use Rattle.refusals.specs.Checks.{with-value}
 use Rattle.calls.specs.declared.Form.the-variants.{Side}
 use Rattle.calls.specs.Checks.{formChecks}
 use Rattle.calls.specs.Promise.{FindsAs}
-use Rattle.replies.proofs.Theorems.{refused-for-side}
+use Rattle.replies.proofs.Theorems.{side-as, side-refused}
 use Rattle.state.proofs.Answering.{refused, weighty, answered}
 use borrow.Author.Needs.{needs}
 use Rattle.state.proofs.ask_side.Statement.{statement}
@@ -17,22 +17,13 @@ found c = rw (c .fluid .given .1) at (c .before .before .find .ensures)
 returns : tie.Need-returns
 returns c =
     let start = c .before .before .before .before .args in
-    record {
-      whole = _;
-      replies = refused _ _ _ (formChecks (Side (start .side))) _ (rw (c .before .refusal .given .1) at (c .before .before .before .find .ensures));
-      is-told = refused-for-side (start .side) _;
-    }
+    side-refused (start .side) _ (refused _ _ _ (formChecks (Side (start .side))) _ (rw (c .before .refusal .given .1) at (c .before .before .before .find .ensures)))
 
 returns-2 : tie.Need-returns-2
 returns-2 c =
     let state = c .before .before in
     let start = state .before .before .before .args in
-    let told = c .answer-side .ensures in
-    record {
-      whole = told .whole;
-      replies = answered _ _ _ (formChecks (Side (start .side))) _ (found state) (told .reported);
-      is-told = told .is-told;
-    }
+    side-as (λ whole reported. answered _ _ _ (formChecks (Side (start .side))) _ (found state) reported) (c .answer-side .ensures)
 
 find-requires : tie.Need-find-requires
 find-requires c κs = search needs

@@ -3,7 +3,7 @@
 use Rattle.refusals.specs.Checks.{with-value}
 use Rattle.calls.specs.declared.Form.the-variants.{Side}
 use Rattle.calls.specs.Promise.{FindsWithBook}
-use Rattle.replies.proofs.Theorems.{refused-for-side}
+use Rattle.replies.proofs.Theorems.{side-as, side-refused}
 use Rattle.state.proofs.Answering.{refused-with-book, weighty-with-book, answered-with-book}
 use borrow.Author.Needs.{needs}
 use Rattle.state.proofs.ask_side_with_book.Statement.{statement}
@@ -16,22 +16,13 @@ found c = rw (c .fluid .given .1) at (c .before .before .before .before .find-wi
 returns : tie.Need-returns
 returns c =
     let start = c .before .before .before .before .before .before .before .before .args in
-    record {
-      whole = _;
-      called = refused-with-book (Side (start .side)) _ _ _ _ _ _ _ (rw (c .before .refusal .given .1) at (c .before .before .before .before .before .find-with-book .ensures));
-      is-told = refused-for-side (start .side) _;
-    }
+    side-refused (start .side) _ (refused-with-book (Side (start .side)) _ _ _ _ _ _ _ (rw (c .before .refusal .given .1) at (c .before .before .before .before .before .find-with-book .ensures)))
 
 returns-2 : tie.Need-returns-2
 returns-2 c =
     let state = c .before .before in
     let start = state .before .before .before .before .before .before .before .args in
-    let told = c .answer-side .ensures in
-    record {
-      whole = told .whole;
-      called = answered-with-book (Side (start .side)) _ _ _ _ _ _ _ (found state) (told .reported);
-      is-told = told .is-told;
-    }
+    side-as (λ whole reported. answered-with-book (Side (start .side)) _ _ _ _ _ _ _ (found state) reported) (c .answer-side .ensures)
 
 find-with-book-requires : tie.Need-find-with-book-requires
 find-with-book-requires c κs = search needs

@@ -7,7 +7,7 @@ use Rattle.state.proofs.answers.answer_side.Tie as tie
 returns : tie.Need-returns
 returns c =
     let start = c .before .before .args in
-    reported-for (start .fluid) (start .side) _ _ (c .before .root-for .ensures) (c .grams .ensures)
+    reported-for {gas = start .gas} {dense = start .dense} (start .fluid) (start .side) _ _ (c .before .root-for .ensures) (c .grams .ensures)
 
 root-for-requires : tie.Need-root-for-requires
 root-for-requires c κs = search needs
