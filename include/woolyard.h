@@ -22,7 +22,7 @@ extern "C" {
 /* The numbers of the replies. */
 #define WOOLYARD_ANSWERED 0
 #define WOOLYARD_NO_SUCH_FLUID 1          /* fluid is neither 0 nor 1 */
-#define WOOLYARD_NO_SUCH_SLOT 4           /* book not of 64 numbers, or slot above 63 */
+#define WOOLYARD_NO_SUCH_SLOT 4           /* book not of 192 bytes, or slot above 63 */
 #define WOOLYARD_HEAT_OUT_OF_RANGE 5      /* heat-capacity temperature not a number in 14 to 1000 K */
 #define WOOLYARD_SHEET_MALFORMED 6        /* sheet badly formed */
 #define WOOLYARD_SHEET_TOO_LONG 7         /* sheet longer than 65,536 bytes */
@@ -57,18 +57,19 @@ extern "C" {
 #define WOOLYARD_ROOT 0     /* the gas root or the dense root */
 #define WOOLYARD_DENSITY 1  /* of that root */
 
-/* How many numbers a book has, and how many bytes a sheet may have. */
-#define WOOLYARD_BOOK_LENGTH 64
+/* How many bytes a book has, and how many a sheet may have. */
+#define WOOLYARD_BOOK_BYTES 192
 #define WOOLYARD_SHEET_MOST_BYTES 65536
 
 /* The reply to a state: its five figures, which are zeros where it is refused.
  * Answers 0, 1, 21, 22, 31 or 32; the first refusal in this order that applies is given. */
 uint64_t woolyard_state(uint64_t fluid, uint64_t millikelvin, uint64_t pascals, uint64_t figures[5]);
 
-/* The same with a book of starting points, 64 numbers of 32 bits, holding anything at all. An answered call writes the gas root into its
- * slot and touches no other place; a refused call writes nothing to the book. What the book holds changes how long an answer takes, never
+/* The same with a book of starting points, 192 bytes, holding anything at all. Slot k, from 0 to 63, has bytes 3 k to 3 k + 2, the lowest
+ * first: it holds book[3 * k] + 256 * book[3 * k + 1] + 65536 * book[3 * k + 2]. An answered call writes the gas root into the three bytes of
+ * its slot and touches no other byte; a refused call writes nothing to the book. What the book holds changes how long an answer takes, never
  * what it is. Answers 0, 1, 21, 22, 31, 32 or 4; the first refusal in this order that applies is given. */
-uint64_t woolyard_state_with_book(uint64_t fluid, uint64_t millikelvin, uint64_t pascals, uint64_t slot, uint32_t *book, size_t book_length,
+uint64_t woolyard_state_with_book(uint64_t fluid, uint64_t millikelvin, uint64_t pascals, uint64_t slot, uint8_t *book, size_t book_length,
                                   uint64_t figures[5]);
 
 /* The reply to a state for the one side that is named: that side's root and density, which are zeros where it is refused. For a state of
@@ -77,9 +78,9 @@ uint64_t woolyard_state_with_book(uint64_t fluid, uint64_t millikelvin, uint64_t
 uint64_t woolyard_side(uint64_t fluid, uint64_t millikelvin, uint64_t pascals, uint64_t side, uint64_t figures[2]);
 
 /* The same with a book, which is used as woolyard_state_with_book uses it: an answered call writes the gas root into its slot, whichever side
- * is named, and touches no other place; a refused call writes nothing to the book.
+ * is named, and touches no other byte; a refused call writes nothing to the book.
  * Answers 0, 1, 21, 22, 31, 32, 12 or 4; the first refusal in this order that applies is given. */
-uint64_t woolyard_side_with_book(uint64_t fluid, uint64_t millikelvin, uint64_t pascals, uint64_t side, uint64_t slot, uint32_t *book,
+uint64_t woolyard_side_with_book(uint64_t fluid, uint64_t millikelvin, uint64_t pascals, uint64_t side, uint64_t slot, uint8_t *book,
                                  size_t book_length, uint64_t figures[2]);
 
 /* Hydrogen's ideal heat capacity at a temperature in kelvin, any double at all: kJ/(kg K), equal bit for bit to Table 4 evaluated from A5

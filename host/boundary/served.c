@@ -18,7 +18,6 @@ enum { STATE, STATE_WITH_BOOK, SIDE, SIDE_WITH_BOOK, HEAT, SHEET, SHEET_LINE };
 
 static union {
     uint64_t words[WORDS];
-    uint32_t numbers[2 * WORDS];
     uint8_t bytes[8 * WORDS];
 } batch;
 
@@ -37,25 +36,24 @@ static uint64_t heat(uint64_t kelvin_pattern, uint64_t *place)
 static uint64_t make(size_t word)
 {
     uint64_t *call = batch.words + word;
-    uint32_t *book = batch.numbers + 2 * (word + LENT);
-    const uint8_t *sheet = batch.bytes + 8 * (word + LENT);
+    uint8_t *lent = batch.bytes + 8 * (word + LENT);
     switch (call[FUNCTION]) {
     case STATE:
         return woolyard_state(call[FIRST], call[SECOND], call[THIRD], call + PLACES);
     case STATE_WITH_BOOK:
-        return woolyard_state_with_book(call[FIRST], call[SECOND], call[THIRD], call[FOURTH], book, call[LENGTH],
+        return woolyard_state_with_book(call[FIRST], call[SECOND], call[THIRD], call[FOURTH], lent, call[LENGTH],
                                         call + PLACES);
     case SIDE:
         return woolyard_side(call[FIRST], call[SECOND], call[THIRD], call[FOURTH], call + PLACES);
     case SIDE_WITH_BOOK:
-        return woolyard_side_with_book(call[FIRST], call[SECOND], call[THIRD], call[FOURTH], call[FIFTH], book,
+        return woolyard_side_with_book(call[FIRST], call[SECOND], call[THIRD], call[FOURTH], call[FIFTH], lent,
                                        call[LENGTH], call + PLACES);
     case HEAT:
         return heat(call[FIRST], call + PLACES);
     case SHEET:
-        return woolyard_sheet(sheet, call[LENGTH], call + PLACES);
+        return woolyard_sheet(lent, call[LENGTH], call + PLACES);
     default:
-        return woolyard_sheet_line(sheet, call[LENGTH], call[FIRST], call + PLACES);
+        return woolyard_sheet_line(lent, call[LENGTH], call[FIRST], call + PLACES);
     }
 }
 

@@ -32,9 +32,10 @@ int main(void)
     number = woolyard_side(WOOLYARD_OXYGEN, 120000, 500000, 2, side_figures);
     printf("its side 2: reply %" PRIu64 "\n", number);
 
-    uint32_t book[WOOLYARD_BOOK_LENGTH] = { 0 };
-    number = woolyard_state_with_book(WOOLYARD_OXYGEN, 120000, 500000, 5, book, WOOLYARD_BOOK_LENGTH, figures);
-    printf("with a book: reply %" PRIu64 ", and slot 5 holds %" PRIu32 "\n", number, book[5]);
+    uint8_t book[WOOLYARD_BOOK_BYTES] = { 0 };
+    number = woolyard_state_with_book(WOOLYARD_OXYGEN, 120000, 500000, 5, book, WOOLYARD_BOOK_BYTES, figures);
+    const uint8_t *slot = book + 3 * 5;
+    printf("with a book: reply %" PRIu64 ", and slot 5 holds %d\n", number, slot[0] + 256 * slot[1] + 65536 * slot[2]);
 
     number = woolyard_state(WOOLYARD_OXYGEN, 55999, 500000, figures);
     printf("oxygen at 55999 mK: reply %" PRIu64 "\n", number);

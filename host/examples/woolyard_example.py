@@ -5,13 +5,13 @@
 
 import ctypes
 import sys
-from ctypes import byref, c_double, c_size_t, c_uint32, c_uint64
+from ctypes import byref, c_double, c_size_t, c_uint8, c_uint64
 
 ANSWERED, SHEET_MALFORMED = 0, 6
-OXYGEN, DENSE, KIND_SPLIT, BOOK_LENGTH = 1, 1, 2, 64
+OXYGEN, DENSE, KIND_SPLIT, BOOK_BYTES = 1, 1, 2, 192
 
 woolyard = ctypes.CDLL(sys.argv[1])
-Figures, SideFigures, Three, Book = c_uint64 * 5, c_uint64 * 2, c_uint64 * 3, c_uint32 * BOOK_LENGTH
+Figures, SideFigures, Three, Book = c_uint64 * 5, c_uint64 * 2, c_uint64 * 3, c_uint8 * BOOK_BYTES
 woolyard.woolyard_state.argtypes = [c_uint64, c_uint64, c_uint64, Figures]
 woolyard.woolyard_state_with_book.argtypes = [c_uint64, c_uint64, c_uint64, c_uint64, Book, c_size_t, Figures]
 woolyard.woolyard_side.argtypes = [c_uint64, c_uint64, c_uint64, c_uint64, SideFigures]
@@ -51,8 +51,8 @@ number = woolyard.woolyard_side(OXYGEN, 120000, 500000, 2, side_figures)
 print(f"its side 2: reply {number}")
 
 book = Book()
-number = woolyard.woolyard_state_with_book(OXYGEN, 120000, 500000, 5, book, BOOK_LENGTH, figures)
-print(f"with a book: reply {number}, and slot 5 holds {book[5]}")
+number = woolyard.woolyard_state_with_book(OXYGEN, 120000, 500000, 5, book, BOOK_BYTES, figures)
+print(f"with a book: reply {number}, and slot 5 holds {int.from_bytes(book[15:18], 'little')}")
 
 number = woolyard.woolyard_state(OXYGEN, 55999, 500000, figures)
 print(f"oxygen at 55999 mK: reply {number}")

@@ -1,10 +1,7 @@
--- What a call is checked for behind its state, in the paper's order: the side it names (document 02, C-18), and the slot of its book (document
--- 01, "The book of starting points").
+-- What a call is checked for behind its state, before the slot of its book: the side it names (document 02, C-18).
 use mathlib.Core.Path.{_≡_}
-use mathlib.Core.Logic.{_⊎_}
 use mathlib.Core.List.{List, [], _∷_}
-use Prim.Native.Nat.{ℕ, _<_}
-use Rattle.refusals.specs.Checks.{Check, _if_, NoneOf}
+use Rattle.refusals.specs.Checks.{Check, _if_}
 use Rattle.replies.specs.Sides.{gas, dense}
 use Rattle.calls.specs.declared.Form.{Form}
 use Rattle.calls.specs.declared.Form.the-variants.{Whole, Side}
@@ -13,9 +10,3 @@ use Rattle.calls.specs.declared.Form.the-variants.{Whole, Side}
 abbrev pub formChecks : Form → List Check
 formChecks Whole = []
 formChecks (Side side) = 12 if ((side ≡ gas → ⊥) × (side ≡ dense → ⊥)) ∷ []
-
-abbrev pub slotChecks : (slot length : ℕ) → List Check
-slotChecks slot length = 4 if ((length ≡ 64 → ⊥) ⊎ (63 < slot)) ∷ []
-
-abbrev pub Placed : (slot length : ℕ) → Type 0
-Placed slot length = NoneOf (slotChecks slot length)

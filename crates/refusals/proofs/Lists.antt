@@ -33,7 +33,7 @@ first-behind-same [] more other refusal same first = same first
 first-behind-same (check ∷ checks) more other refusal same (inl here) = inl here
 first-behind-same (check ∷ checks) more other refusal same (inr later) = inr (later .0, first-behind-same checks more other refusal same (later .1))
 
-none-behind : (checks more : List Check) → NoneOf (checks ++ more) → NoneOf more
+pub none-behind : (checks more : List Check) → NoneOf (checks ++ more) → NoneOf more
 none-behind [] more none = none
 none-behind (check ∷ checks) more none = none-behind checks more (none .1)
 
@@ -43,7 +43,7 @@ first-past (check ∷ checks) more refusal none (inl here) = absurd (none .0 (he
 first-past (check ∷ checks) more refusal none (inr later) = first-past checks more refusal (none .1) (later .1)
 
 module _ {Figures : Type 0} (checks : List Check) {Refused : ℕ → Figures → Type 0} {Answers : Figures → Type 0} {figures : Figures} where
-  tells-behind-same : (more other : List Check) → ((refusal : ℕ) → FirstOf more refusal → FirstOf other refusal) → (NoneOf more → NoneOf other) → Tells (checks ++ more) Refused Answers figures → Tells (checks ++ other) Refused Answers figures
+  pub tells-behind-same : (more other : List Check) → ((refusal : ℕ) → FirstOf more refusal → FirstOf other refusal) → (NoneOf more → NoneOf other) → Tells (checks ++ more) Refused Answers figures → Tells (checks ++ other) Refused Answers figures
   tells-behind-same more other same none (refuses refusal first told) = refuses refusal (first-behind-same checks more other refusal (same refusal) first) told
   tells-behind-same more other same none (answers passed told) =
       answers (none-both checks other (none-front checks more passed) (none (none-behind checks more passed))) told

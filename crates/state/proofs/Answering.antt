@@ -4,9 +4,11 @@ use mathlib.Core.Path.{_≡_, refl, sym, ap, _∙_}
 use mathlib.Core.List.{List, _++_}
 use Prim.Native.Nat.{ℕ, zero, suc}
 use native.Mathlib.Omega.{arith}
-use lib.ListN.{length, set}
+use lib.ListN.{length}
 use Rattle.refusals.specs.Checks.{Check, refuses, answers, with-value, with-number, Gives}
 use Rattle.refusals.proofs.Lists.{none-front}
+use Rattle.books.specs.Layouts.{Layout, slotChecks}
+use Rattle.books.specs.Bytes.{inBytes}
 use Rattle.cubic.specs.Cubic.{Crossing, Kind, ONE, SPLIT}
 use Rattle.cubic.proofs.Theorems.{crossing-from-b, crossing-on-grid, kind-exists}
 use Rattle.fluid.specs.declared.choice.Fluid.{Fluid}
@@ -20,13 +22,13 @@ use Rattle.densities.specs.Densities.{density}
 use Rattle.densities.specs.Promise.{Weighable}
 use Rattle.roots.specs.Promise.{Found, HasRoots}
 use Rattle.calls.specs.declared.Form.{Form}
-use Rattle.calls.specs.Checks.{formChecks, slotChecks}
+use Rattle.calls.specs.Checks.{formChecks}
 use Rattle.calls.specs.Promise.{FindsWithBook}
 use Rattle.replies.specs.declared.Figures.{Figures}
-use Rattle.replies.specs.Figures.{numberOfKind, refusedWith}
+use Rattle.replies.specs.Figures.{answeredWith, refusedWith}
 use Rattle.replies.specs.Sides.{gas, forSide, SideOf}
 use Rattle.state.specs.Replies.{Told}
-use Rattle.state.specs.Book.{ifKind, bookAfter, CalledAs}
+use Rattle.state.specs.Book.{bookAfter, CalledAs}
 use Rattle.state.specs.Inside.{Weighty, Reported}
 
 module _ {fluid : Fluid} {millikelvin pascals : ℕ} {reduced : Reduced} (accepted : Accepted fluid millikelvin pascals) (reduces : Reduces fluid millikelvin pascals reduced) where
@@ -61,10 +63,10 @@ module _ {millikelvin pascals gas dense : ℕ} where
       let kind = kind-exists gas dense in
       record { whole = _; holds = record { kind = kind .0; is-kind = kind .1; is-figures = refl }; is-told = rw (is-density, is-root, weighed-for (density fluid millikelvin pascals) side gas dense) refl }
 
--- an answered call writes, whichever kind it has
-writes : (kind : Kind) (written before : List ℕ) → ifKind (numberOfKind kind) written before ≡ written
-writes ONE written before = refl
-writes SPLIT written before = refl
+-- an answered call writes its gas root, whichever kind it has
+pub written : (layout : Layout) (book : List ℕ) (slot : ℕ) (kind : Kind) {gas dense gas-density dense-density : ℕ} {figures : Figures} → figures ≡ answeredWith kind gas dense gas-density dense-density → bookAfter layout book slot figures ≡ layout .put book slot gas
+written layout book slot ONE same = ap (bookAfter layout book slot) same
+written layout book slot SPLIT same = ap (bookAfter layout book slot) same
 
 -- whatever checks stand behind a state's own
 module _ (number millikelvin pascals : ℕ) (more : List Check) where
@@ -90,18 +92,18 @@ module _ (number millikelvin pascals : ℕ) (more : List Check) where
 -- with a book
 module _ (form : Form) (number millikelvin pascals slot : ℕ) (book after : List ℕ) where
   abbrev checks : List Check
-  checks = formChecks form ++ slotChecks slot (length book)
+  checks = formChecks form ++ slotChecks inBytes slot (length book)
 
-  pub refused-with-book : (refusal : ℕ) → FindsWithBook form number millikelvin pascals slot book (with-number refusal) after → CalledAs form number millikelvin pascals slot book (refusedWith refusal) after
+  pub refused-with-book : (refusal : ℕ) → FindsWithBook form number millikelvin pascals slot book (with-number refusal) after → CalledAs inBytes form number millikelvin pascals slot book (refusedWith refusal) after
   refused-with-book refusal found = record { replies = refused number millikelvin pascals checks refusal (found .finds); leaves = found .leaves }
 
   module _ (found : Found) (finds : FindsWithBook form number millikelvin pascals slot book (with-value found) after) where
     pub weighty-with-book : Weighty millikelvin pascals (found .gas) (found .dense)
     weighty-with-book = weighty number millikelvin pascals checks found (finds .finds)
 
-    pub answered-with-book : {figures : Figures} → Reported (found .fluid) millikelvin pascals (found .gas) (found .dense) figures → CalledAs form number millikelvin pascals slot book figures after
+    pub answered-with-book : {figures : Figures} → Reported (found .fluid) millikelvin pascals (found .gas) (found .dense) figures → CalledAs inBytes form number millikelvin pascals slot book figures after
     answered-with-book reported =
         record {
           replies = answered number millikelvin pascals checks found (finds .finds) reported;
-          leaves = finds .leaves ∙ sym (ap (bookAfter book slot) (reported .is-figures) ∙ writes (reported .kind) (set book slot (found .gas)) book);
+          leaves = finds .leaves ∙ sym (written inBytes book slot (reported .kind) (reported .is-figures));
         }

@@ -7,15 +7,16 @@ use Prim.Native.Nat.{ℕ, _+_, _≤_, _<_}
 use native.Mathlib.Omega.{arith}
 use lib.ListN.{length}
 use Rattle.refusals.specs.Checks.{Check, _if_, FirstOf, Tells, refuses, answers}
+use Rattle.books.specs.Layouts.{Layout, slotChecks}
 use Rattle.fluid.specs.declared.choice.Fluid.{Fluid}
 use Rattle.fluid.specs.Figures.{numberOf, coldest, hottest, lowest, highest}
 use Rattle.fluid.specs.Checks.{OfFluid, stateChecks}
 use Rattle.fluid.proofs.Accepting.{fluid-or-none}
+use Rattle.calls.specs.declared.Form.the-variants.{Whole}
 use Rattle.replies.specs.declared.Figures.{Figures}
 use Rattle.replies.specs.Figures.{refusedWith}
 use Rattle.state.specs.Replies.{NumberAndZeros, Answered, Replies}
-use Rattle.calls.specs.Checks.{slotChecks}
-use Rattle.state.specs.Book.{bookAfter, Called}
+use Rattle.state.specs.Book.{bookAfter, CalledAs}
 use Rattle.state.proofs.Determined.{told-once}
 
 abbrev pub TemperatureOut : (number millikelvin : ℕ) → Type 0
@@ -33,16 +34,16 @@ abbrev pub ToldBefore : (number millikelvin pascals : ℕ) (more : List Check) �
 ToldBefore number millikelvin pascals more =
     Tells (checksBefore number millikelvin pascals ++ more) NumberAndZeros (Answered number millikelvin pascals)
 
-pub record CalledBefore (number millikelvin pascals slot : ℕ) (book : List ℕ) (figures : Figures) (after : List ℕ) : Type 0 where
-  pub replies : ToldBefore number millikelvin pascals (slotChecks slot (length book)) figures
-  pub leaves : after ≡ bookAfter book slot figures
+pub record CalledBefore (layout : Layout) (number millikelvin pascals slot : ℕ) (book : List ℕ) (figures : Figures) (after : List ℕ) : Type 0 where
+  pub replies : ToldBefore number millikelvin pascals (slotChecks layout slot (length book)) figures
+  pub leaves : after ≡ bookAfter layout book slot figures
 
 -- what is told of a state now, and what was told of it
 pub record Finer (now before : Figures) : Type 0 where
   pub temperature : (now .number ≡ 21) ⊎ (now .number ≡ 22) ↔ before .number ≡ 2
   pub pressure : (now .number ≡ 31) ⊎ (now .number ≡ 32) ↔ before .number ≡ 3
   pub otherwise : (before .number ≡ 2 → ⊥) → (before .number ≡ 3 → ⊥) → now ≡ before
-  pub book : (book : List ℕ) (slot : ℕ) → bookAfter book slot now ≡ bookAfter book slot before
+  pub book : (layout : Layout) (book : List ℕ) (slot : ℕ) → bookAfter layout book slot now ≡ bookAfter layout book slot before
 
 bounds : {n m : ℕ} → (n ≡ m) ⊎ (n ≡ m + 1) → (m ≤ n) × (n ≤ m + 1)
 bounds = ⊎-elim (λ lower. (omega arith, omega arith)) (λ upper. (omega arith, omega arith))
@@ -53,7 +54,7 @@ finer-temperature side =
       temperature = (λ told. refl, λ was. side);
       pressure = (λ told. omega (arith, bounds side, bounds told), λ was. absurd (omega arith));
       otherwise = λ not-2 not-3. absurd (not-2 refl);
-      book = λ book slot. refl;
+      book = λ layout book slot. refl;
     }
 
 finer-pressure : {refusal : ℕ} → (refusal ≡ 31) ⊎ (refusal ≡ 32) → Finer (refusedWith refusal) (refusedWith 3)
@@ -62,7 +63,7 @@ finer-pressure side =
       temperature = (λ told. omega (arith, bounds told, bounds side), λ was. absurd (omega arith));
       pressure = (λ told. refl, λ was. side);
       otherwise = λ not-2 not-3. absurd (not-3 refl);
-      book = λ book slot. refl;
+      book = λ layout book slot. refl;
     }
 
 as-it-was : {figures : Figures} → (figures .number ≡ 2 → ⊥) → (figures .number ≡ 3 → ⊥) → figures .number < 21 → Finer figures figures
@@ -71,7 +72,7 @@ as-it-was not-2 not-3 below =
       temperature = (λ told. omega (arith, bounds told), λ was. absurd (not-2 was));
       pressure = (λ told. omega (arith, bounds told), λ was. absurd (not-3 was));
       otherwise = λ not-2 not-3. refl;
-      book = λ book slot. refl;
+      book = λ layout book slot. refl;
     }
 
 neither-side : {number millikelvin : ℕ} → (OfFluid number (λ fluid. millikelvin < coldest fluid) → ⊥) → (hottest < millikelvin → ⊥) → TemperatureOut number millikelvin → ⊥
@@ -130,12 +131,12 @@ module _ (number millikelvin pascals : ℕ) (more : List Check) (only-4 : (refus
 
 -- 21 or 22 is told exactly where 2 was, 31 or 32 exactly where 3 was, and everything else as it was; the book is left as it was left
 module _ {number millikelvin pascals : ℕ} {now before : Figures} where
-  pub finer-than-before : {slot : ℕ} {book after after′ : List ℕ} → Called number millikelvin pascals slot book now after → CalledBefore number millikelvin pascals slot book before after′ → Finer now before × (after ≡ after′)
-  finer-than-before {slot} {book} called called-before =
-      let finer : Finer now before = compared number millikelvin pascals (slotChecks slot (length book)) only-4 (called .replies) (called-before .replies) in
-      (finer, called .leaves ∙ finer .book book slot ∙ sym (called-before .leaves))
+  pub finer-than-before : {layout : Layout} {slot : ℕ} {book after after′ : List ℕ} → CalledAs layout Whole number millikelvin pascals slot book now after → CalledBefore layout number millikelvin pascals slot book before after′ → Finer now before × (after ≡ after′)
+  finer-than-before {layout} {slot} {book} called called-before =
+      let finer : Finer now before = compared number millikelvin pascals (slotChecks layout slot (length book)) only-4 (called .replies) (called-before .replies) in
+      (finer, called .leaves ∙ finer .book layout book slot ∙ sym (called-before .leaves))
     where
-      only-4 : (refusal : ℕ) → FirstOf (slotChecks slot (length book)) refusal → refusal ≡ 4
+      only-4 : (refusal : ℕ) → FirstOf (slotChecks layout slot (length book)) refusal → refusal ≡ 4
       only-4 refusal (inl here) = here .1
       only-4 refusal (inr later) = absurd (later .1)
 

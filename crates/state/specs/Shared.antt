@@ -1,7 +1,8 @@
--- Calls of both forms made one after another on one book, and the same calls made each alone.
+-- Calls of both forms made one after another on one book, however it is laid out, and the same calls made each alone.
 use mathlib.Core.Path.{_≡_}
 use mathlib.Core.List.{List, [], _∷_}
 use Prim.Native.Nat.{ℕ}
+use Rattle.books.specs.Layouts.{Layout}
 use Rattle.calls.specs.declared.Form.{Form}
 use Rattle.calls.specs.declared.Form.the-variants.{Whole, Side}
 use Rattle.replies.specs.declared.Reply.{Reply}
@@ -28,10 +29,10 @@ Shows Whole reply figures = figuresOf reply ≡ figures
 Shows (Side side) reply figures = sideFiguresOf reply ≡ figuresFor side figures
 
 -- a call on a book gets an answer, and leaves some book
-pub record Gets (call : Call) (book : List ℕ) (answer : AnswerTo (call .form)) : Type 0 where
+pub record Gets (layout : Layout) (call : Call) (book : List ℕ) (answer : AnswerTo (call .form)) : Type 0 where
   pub figures : Figures
   pub after : List ℕ
-  pub called : CalledAs (call .form) (call .fluid) (call .millikelvin) (call .pascals) (call .slot) book figures after
+  pub called : CalledAs layout (call .form) (call .fluid) (call .millikelvin) (call .pascals) (call .slot) book figures after
   pub shows : Shows (call .form) answer figures
 
 -- an answer to each call
@@ -39,12 +40,12 @@ abbrev pub Answers : List Call → Type 0
 Answers [] = Unit {0}
 Answers (call ∷ calls) = AnswerTo (call .form) × Answers calls
 
--- each call finds the book as the one before it left it
-abbrev pub Shared : (book : List ℕ) (calls : List Call) → Answers calls → Type 0
-Shared book [] answers = Unit {0}
-Shared book (call ∷ calls) answers = (gets : Gets call book (answers .0)) × Shared (gets .after) calls (answers .1)
+-- each call finds the book as the one before it left it, and the last one leaves the book after
+abbrev pub Shared : Layout → (book : List ℕ) (calls : List Call) → Answers calls → (after : List ℕ) → Type 0
+Shared layout book [] answers after = after ≡ book
+Shared layout book (call ∷ calls) answers after = (gets : Gets layout call book (answers .0)) × Shared layout (gets .after) calls (answers .1) after
 
 -- each call finds the book as given
-abbrev pub Alone : (book : List ℕ) (calls : List Call) → Answers calls → Type 0
-Alone book [] answers = Unit {0}
-Alone book (call ∷ calls) answers = Gets call book (answers .0) × Alone book calls (answers .1)
+abbrev pub Alone : Layout → (book : List ℕ) (calls : List Call) → Answers calls → Type 0
+Alone layout book [] answers = Unit {0}
+Alone layout book (call ∷ calls) answers = Gets layout call book (answers .0) × Alone layout book calls (answers .1)

@@ -28,13 +28,13 @@ pub fn ask(fluid: u64, millikelvin: u64, pascals: u64) -> Reply
     }
 }
 
-// With a book: what its slot holds changes no reply, and an answered call leaves the gas root there.
+// With a book: what its slot says changes no reply, and an answered call leaves the gas root there.
 pub fn ask_with_book(
     fluid: u64,
     millikelvin: u64,
     pascals: u64,
     slot: u64,
-    book: &mut [u32],
+    book: &mut [u8],
 ) -> Reply
     ensures { λ r. ⌜ Called fluid millikelvin pascals slot (now (book .entry)) (figuresOf r) (now (book .exit)) ⌝ }
 {
@@ -63,7 +63,7 @@ pub fn ask_side_with_book(
     pascals: u64,
     side: u64,
     slot: u64,
-    book: &mut [u32],
+    book: &mut [u8],
 ) -> SideReply
     ensures { λ r. ⌜ CalledForSide fluid millikelvin pascals side slot (now (book .entry)) (sideFiguresOf r) (now (book .exit)) ⌝ }
 {

@@ -1,7 +1,7 @@
 // Prints what `state::ask_with_book` answers to some thousands of states, every call on one book that
 // begins full of misleading numbers. A line is a question, "fluid millikelvin pascals slot", and then the
-// number and the five figures of the reply. The first line is the book before, the last two are the
-// book after and how many states there were. The gate holds the output to what a second implementation
+// number and the five figures of the reply. The first line is the book before, byte for byte, the last two
+// are the book after and how many states there were. The gate holds the output to what a second implementation
 // answers, which never looks at a book (host/README.md says how to make that again).
 mod tables;
 
@@ -16,8 +16,10 @@ ghost use Prim.Native.Nat.{_*_, _<_};
 
 const SLOTS: u64 = 64;
 
-fn wide(number: u32) -> u64 {
-    number as u64
+const BOOK_BYTES: usize = 192;
+
+fn wide(byte: u8) -> u64 {
+    byte as u64
 }
 
 fn print_after_space(number: u64) {
@@ -25,10 +27,17 @@ fn print_after_space(number: u64) {
     io::print_decimal(STDOUT_FILENO, number);
 }
 
-fn print_book(book: &[u32]) {
+// Each slot says the misleading number of its place.
+fn mislead(book: &mut [u8]) {
+    for slot in 0..MISLEADING.len() {
+        books::leave(book, slot as u64, MISLEADING[slot]);
+    }
+}
+
+fn print_book(book: &[u8]) {
     io::write_all(STDOUT_FILENO, b"book");
-    for slot in 0..book.len() {
-        print_after_space(wide(book[slot]));
+    for place in 0..book.len() {
+        print_after_space(wide(book[place]));
     }
     io::write_all(STDOUT_FILENO, b"\n");
 }
@@ -43,7 +52,7 @@ fn print_figures(figures: Figures) {
     io::write_all(STDOUT_FILENO, b"\n");
 }
 
-fn print_state(fluid: u64, millikelvin: u64, pascals: u64, slot: u64, book: &mut [u32]) {
+fn print_state(fluid: u64, millikelvin: u64, pascals: u64, slot: u64, book: &mut [u8]) {
     io::print_decimal(STDOUT_FILENO, fluid);
     print_after_space(millikelvin);
     print_after_space(pascals);
@@ -55,7 +64,7 @@ fn print_state(fluid: u64, millikelvin: u64, pascals: u64, slot: u64, book: &mut
 // Every pair of the two tables, for one fluid and then the other in the same slot: where both are
 // answered, each finds the other's root there. Answers how many states it asked, as `print_sides`,
 // `print_refusals`, `print_densities` and `print_walk` do.
-fn print_pairs(book: &mut [u32]) -> u64
+fn print_pairs(book: &mut [u8]) -> u64
     ensures { λ r. ⌜ r ≡ 2 * 58 * 42 ⌝ }
 {
     let mut asked = 0;
@@ -71,7 +80,7 @@ fn print_pairs(book: &mut [u32]) -> u64
 }
 
 // Each side of a range where every later refusal applies too.
-fn print_sides(book: &mut [u32]) -> u64
+fn print_sides(book: &mut [u8]) -> u64
     ensures { λ r. ⌜ r ≡ 4 ⌝ }
 {
     print_state(1, 0, 0, SLOTS, book);
@@ -82,7 +91,7 @@ fn print_sides(book: &mut [u32]) -> u64
 }
 
 // Each other refusal likewise.
-fn print_refusals(book: &mut [u32]) -> u64
+fn print_refusals(book: &mut [u8]) -> u64
     ensures { λ r. ⌜ r ≡ 4 ⌝ }
 {
     print_state(2, 0, 0, SLOTS, book);
@@ -94,7 +103,7 @@ fn print_refusals(book: &mut [u32]) -> u64
 
 // Densities that reach their last gram only by what the molar mass leaves over the gas constant: for each
 // fluid a state with one root and one with two.
-fn print_densities(book: &mut [u32]) -> u64
+fn print_densities(book: &mut [u8]) -> u64
     ensures { λ r. ⌜ r ≡ 4 ⌝ }
 {
     print_state(0, 24_073, 15_549_695, 0, book);
@@ -126,7 +135,7 @@ fn fluid_from(random: u64) -> u64 {
 
 // A state at random: a temperature and a pressure from a little above their ranges downwards, small ones as
 // often as large ones, and now and then a slot past the last. Answers the random number to go on from.
-fn print_random_state(random: u64, book: &mut [u32]) -> u64
+fn print_random_state(random: u64, book: &mut [u8]) -> u64
     requires { ⌜ random < 2147483647 ⌝ }
     ensures { λ r. ⌜ r < 2147483647 ⌝ }
 {
@@ -146,7 +155,7 @@ fn print_random_state(random: u64, book: &mut [u32]) -> u64
     sixth
 }
 
-fn print_walk(book: &mut [u32]) -> u64
+fn print_walk(book: &mut [u8]) -> u64
     ensures { λ r. ⌜ r ≡ 1000 ⌝ }
 {
     let mut random = 1;
@@ -159,7 +168,8 @@ fn print_walk(book: &mut [u32]) -> u64
 }
 
 fn main() {
-    let mut book = MISLEADING;
+    let mut book = [0u8; BOOK_BYTES];
+    mislead(&mut book);
     print_book(&book);
     let pairs = print_pairs(&mut book);
     let sides = print_sides(&mut book);

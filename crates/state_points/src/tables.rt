@@ -1,18 +1,18 @@
-// The states that are asked as pairs of a temperature and a pressure, and the book before the first of
-// them.
+// The states that are asked as pairs of a temperature and a pressure, and what the book says before the
+// first of them.
 pub(crate) const LARGEST: u64 = 18_446_744_073_709_551_615;
 
-// What a careless page might lend: nothing, roots of worked states with their neighbours and their
-// coefficients, the third of the grid where the cubic bends, the ends of the grid, and numbers that are no
-// state's root.
-pub(crate) const MISLEADING: [u32; 64] = [
+// What a careless page might lend, each a number of three bytes: nothing, roots of worked states with
+// their neighbours and their coefficients, the third of the grid where the cubic bends, the ends of the
+// grid, and numbers that are no state's root.
+pub(crate) const MISLEADING: [u64; 64] = [
     0,
     1,
     33_332,
     33_333,
     99_286,
     100_001,
-    4_294_967_295,
+    16_777_215,
     92_696,
     1699,
     1700,
@@ -53,11 +53,11 @@ pub(crate) const MISLEADING: [u32; 64] = [
     10_969_036,
     65_535,
     65_536,
-    16_777_216,
-    2_147_483_647,
-    2_147_483_648,
-    4_294_967_294,
-    4_294_867_295,
+    256,
+    8_388_607,
+    8_388_608,
+    16_777_214,
+    16_677_215,
     1_000_000,
     1_000_001,
     200_000,
@@ -69,7 +69,7 @@ pub(crate) const MISLEADING: [u32; 64] = [
     1000,
     10_000,
     31,
-    4_000_000_000,
+    15_000_000,
 ];
 
 // Millikelvin: the ends of both ranges with their neighbours, 0 and the largest number, hydrogen from

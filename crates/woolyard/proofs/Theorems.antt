@@ -5,13 +5,13 @@ use mathlib.Core.List.{List, _∷_, []}
 use Prim.Native.Nat.{ℕ}
 use lib.Ieee.{Float}
 use lib.ListN.{length}
+use Rattle.books.specs.Layouts.{Placed}
+use Rattle.books.specs.Bytes.{inBytes}
 use Rattle.replies.specs.declared.Reply.{Reply}
 use Rattle.replies.specs.Figures.{figuresOf}
 use Rattle.replies.specs.declared.sides.SideReply.{SideReply}
 use Rattle.replies.specs.declared.sides.SideFigures.{SideFigures}
 use Rattle.replies.specs.Sides.{sideFiguresOf}
-use Rattle.calls.specs.declared.Form.the-variants.{Whole, Side}
-use Rattle.calls.specs.Checks.{Placed}
 use Rattle.replies.proofs.Theorems.{refused-carries-zeros, refused-side-carries-zeros}
 use Rattle.state.proofs.Theorems as state
 use Rattle.heat.specs.Replies.{numberOf}
@@ -48,7 +48,7 @@ module _ (fluid millikelvin pascals : ℕ) where
         same-laid (state.same-on-any-book _ book other same (state.whole-gets (p .called)) (state.whole-gets (q .called))) (p .laid) (q .laid)
 
     -- and where the book has the slot, the call without a book gets them too
-    pub same-without-book : {book after figures figures′ : List ℕ} {number number′ : ℕ} → Placed slot (length book) → BookAnswers fluid millikelvin pascals slot book number figures after → StateAnswers fluid millikelvin pascals number′ figures′ → (number ≡ number′) × (figures ≡ figures′)
+    pub same-without-book : {book after figures figures′ : List ℕ} {number number′ : ℕ} → Placed inBytes slot (length book) → BookAnswers fluid millikelvin pascals slot book number figures after → StateAnswers fluid millikelvin pascals number′ figures′ → (number ≡ number′) × (figures ≡ figures′)
     same-without-book placed p q =
         same-laid (state.same-without-book fluid millikelvin pascals placed (p .called) (q .replies)) (p .laid) (q .laid)
 
@@ -64,7 +64,7 @@ refused-lays-zeros {reply} laid refused =
 
 pub refused-changes-no-book : {fluid millikelvin pascals slot number : ℕ} {book figures after : List ℕ} → BookAnswers fluid millikelvin pascals slot book number figures after → (number ≡ 0 → ⊥) → after ≡ book
 refused-changes-no-book p refused =
-    state.refused-changes-nothing Whole _ _ _ _ (λ answered. refused (p .laid .is-number ∙ answered)) (p .called)
+    state.refused-changes-nothing (λ answered. refused (p .laid .is-number ∙ answered)) (p .called)
 
 -- ---- sides
 same-side-laid : {reply other : SideReply} {number number′ : ℕ} {figures figures′ : List ℕ} → reply ≡ other → SideLaid reply number figures → SideLaid other number′ figures′ → (number ≡ number′) × (figures ≡ figures′)
@@ -91,8 +91,8 @@ refused-side-lays-zeros {reply} laid refused =
     laid .is-figures ∙ ap twoOf (refused-side-carries-zeros reply (λ answered. refused (laid .is-number ∙ answered)))
 
 pub refused-side-changes-no-book : {fluid millikelvin pascals side slot number : ℕ} {book figures after : List ℕ} → SideBookAnswers fluid millikelvin pascals side slot book number figures after → (number ≡ 0 → ⊥) → after ≡ book
-refused-side-changes-no-book {side = side} p refused =
-    state.refused-changes-nothing (Side side) _ _ _ _
+refused-side-changes-no-book p refused =
+    state.refused-changes-nothing
     (λ answered. refused (p .laid .is-number ∙ ap (λ (f : SideFigures). f .number) (p .called .is-told) ∙ answered)) (p .called .holds)
 
 -- ---- the heat capacity

@@ -33,7 +33,7 @@ pub extern "C" fn woolyard_state_with_book(
     millikelvin: u64,
     pascals: u64,
     slot: u64,
-    book: &mut [u32],
+    book: &mut [u8],
     figures: &mut [u64; 5],
 ) -> u64
     ensures { λ r. ⌜ BookAnswers fluid millikelvin pascals slot (now (book .entry)) r (now (figures .exit)) (now (book .exit)) ⌝ }
@@ -65,7 +65,7 @@ pub extern "C" fn woolyard_side_with_book(
     pascals: u64,
     side: u64,
     slot: u64,
-    book: &mut [u32],
+    book: &mut [u8],
     figures: &mut [u64; 2],
 ) -> u64
     ensures { λ r. ⌜ SideBookAnswers fluid millikelvin pascals side slot (now (book .entry)) r (now (figures .exit)) (now (book .exit)) ⌝ }

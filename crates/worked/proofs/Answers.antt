@@ -1,11 +1,11 @@
 -- The test of an answered row: the state is within its ranges, the row's t, p, s, a and b are the state's, the reply's roots are those of
 -- a and b, and its densities are those of the roots. Assumes nothing.
 use mathlib.Core.Path.{refl, ap₂}
-use mathlib.Core.Logic.{⊎-elim}
 use Prim.Native.Nat.{ℕ}
-use native.Mathlib.Nat.{not-le-of-lt}
-use Rattle.refusals.specs.Checks.{answers}
+use Rattle.refusals.specs.Checks.{NoneOf, answers}
 use Rattle.refusals.proofs.Lists.{none-both}
+use Rattle.books.specs.Bytes.{inBytes}
+use Rattle.books.proofs.Slots as slots
 use Rattle.cubic.specs.Cubic.{Kind, ONE, SPLIT}
 use Rattle.fluid.specs.declared.choice.Fluid.{Fluid}
 use Rattle.fluid.specs.declared.coefficients.Reduced.{Reduced}
@@ -19,9 +19,8 @@ use Rattle.replies.specs.declared.Reply.{Reply}
 use Rattle.replies.specs.declared.Reply.the-variants.{One, Split, Refused}
 use Rattle.replies.specs.declared.Figures.{Figures}
 use Rattle.replies.specs.Figures.{answeredWith, figuresOf}
-use Rattle.calls.specs.Checks.{slotChecks, Placed}
 use Rattle.state.specs.Replies.{Answered}
-use Rattle.worked.specs.Rows.{Span, ForEach, Replied, RightAnswer}
+use Rattle.worked.specs.Rows.{Span, ForEach, inBook, Replied, RightAnswer}
 use Rattle.worked.proofs.Tests.{Tested, by, _with_, never, equal, at-most, below}
 use Rattle.worked.proofs.Spans.{for-each, then-each}
 use Rattle.worked.proofs.Roots.{roots}
@@ -29,9 +28,8 @@ use Rattle.worked.proofs.Roots.{roots}
 abbrev pub whole-root : (n root : ℕ) → Tested (SquareRoot n root)
 whole-root n root = by square-root with at-most _ _ with below _ _
 
-abbrev pub placed : (slot length : ℕ) → Tested (Placed slot length)
-placed slot length =
-    by (λ is-book has-slot. (⊎-elim (λ other. other is-book) (λ past. not-le-of-lt past has-slot), tt)) with equal length 64 with at-most slot 63
+abbrev pub placed : (slot : ℕ) → Tested (NoneOf (inBook slot))
+placed slot = by (λ up-to-last. slots.placed inBytes slot 192 (refl, up-to-last)) with at-most slot 63
 
 module _ (fluid : Fluid) (millikelvin pascals : ℕ) where
   abbrev pub accepted : Tested (Accepted fluid millikelvin pascals)
@@ -64,9 +62,9 @@ module _ (fluid : Fluid) (millikelvin pascals : ℕ) where
         then-each slots
         (λ slot placed.
         answers
-        (none-both (stateChecks (numberOf fluid) millikelvin pascals) (slotChecks slot 64) (passes fluid refl millikelvin pascals accepted) placed)
+        (none-both (stateChecks (numberOf fluid) millikelvin pascals) (inBook slot) (passes fluid refl millikelvin pascals accepted) placed)
         answered))
-        with accepted with tested with for-each slots (λ slot. placed slot 64)
+        with accepted with tested with for-each slots placed
 
   module _ (reduced : Reduced) (slots : Span) where
     abbrev pub replies : (reply : Reply) → Tested (ForEach slots (λ slot. Replied (numberOf fluid) millikelvin pascals slot (figuresOf reply)))

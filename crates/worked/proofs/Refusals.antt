@@ -10,8 +10,7 @@ use Rattle.fluid.specs.Figures.{numberOf, coldest, hottest, lowest, highest, Ac
 use Rattle.fluid.specs.Checks.{stateChecks}
 use Rattle.fluid.proofs.Accepting.{no-fluid, unknown-fluid, too-cold, too-hot, too-low, too-high, passes}
 use Rattle.replies.specs.Figures.{refusedWith}
-use Rattle.calls.specs.Checks.{slotChecks}
-use Rattle.worked.specs.Rows.{Span, Replied, RightRefusal}
+use Rattle.worked.specs.Rows.{Span, inBook, Replied, RightRefusal}
 use Rattle.worked.proofs.Tests.{Tested, by, _with_, _or_, equal, differ, at-most, below}
 use Rattle.worked.proofs.Spans.{for-each, at-each}
 use Rattle.worked.proofs.Answers.{accepted}
@@ -19,7 +18,7 @@ use Rattle.worked.proofs.Answers.{accepted}
 -- a state's own refusal is given with a book too
 pub before-slot : (number millikelvin pascals slot refusal : ℕ) → FirstOf (stateChecks number millikelvin pascals) refusal → Replied number millikelvin pascals slot (refusedWith refusal)
 before-slot number millikelvin pascals slot refusal first =
-    refuses refusal (first-front (stateChecks number millikelvin pascals) (slotChecks slot 64) refusal first) refl
+    refuses refusal (first-front (stateChecks number millikelvin pascals) (inBook slot) refusal first) refl
 
 module _ (number millikelvin refusal : ℕ) where
   abbrev pub unknown : Tested ((pascals : ℕ) → FirstOf (stateChecks number millikelvin pascals) refusal)
@@ -45,7 +44,7 @@ module _ (number millikelvin refusal : ℕ) where
     pub past-slots : refusal ≡ 4 → number ≡ numberOf fluid → (pascals slot : ℕ) → Accepted fluid millikelvin pascals → 63 < slot → Replied number millikelvin pascals slot (refusedWith refusal)
     past-slots is-4 is-number pascals slot accepted past =
         refuses refusal
-        (first-behind (stateChecks number millikelvin pascals) (slotChecks slot 64) refusal (passes fluid is-number millikelvin pascals accepted) (inl (inr past, is-4)))
+        (first-behind (stateChecks number millikelvin pascals) (inBook slot) refusal (passes fluid is-number millikelvin pascals accepted) (inl (inr past, is-4)))
         refl
 
     abbrev pub slot-past : (pascals slot : ℕ) → Tested (Replied number millikelvin pascals slot (refusedWith refusal))

@@ -3,6 +3,9 @@ use mathlib.Core.Path.{_≡_}
 use mathlib.Core.List.{List, [], _∷_}
 use Prim.Native.Nat.{ℕ, _≤_}
 use lib.IntN.{ℤ}
+use Rattle.refusals.specs.Checks.{Check}
+use Rattle.books.specs.Layouts.{slotChecks}
+use Rattle.books.specs.Bytes.{inBytes}
 use Rattle.cubic.specs.Cubic.{g}
 use Rattle.fluid.specs.declared.choice.Fluid.{Fluid}
 use Rattle.fluid.specs.declared.coefficients.Reduced.{Reduced}
@@ -11,7 +14,6 @@ use Rattle.fluid.specs.Reduced.{Reduces}
 use Rattle.replies.specs.declared.Reply.{Reply}
 use Rattle.replies.specs.declared.Figures.{Figures}
 use Rattle.replies.specs.Figures.{refusedWith, figuresOf}
-use Rattle.calls.specs.Checks.{slotChecks}
 use Rattle.state.specs.Replies.{Told}
 
 -- the pressures, or the slots, of which a row speaks
@@ -31,9 +33,13 @@ pub data Row : Type 0 where
   value : (a b z : ℕ) → ℤ → Row
   refused : (number millikelvin : ℕ) (pressures slots : Span) (refusal : ℕ) → Row
 
--- what a call with a book of 64 numbers tells, whatever they are; but for 4 a call without a book tells it too
+-- what a call with a book of 192 bytes is checked for
+abbrev pub inBook : (slot : ℕ) → List Check
+inBook slot = slotChecks inBytes slot 192
+
+-- and what it tells, whatever they are; but for 4 a call without a book tells it too
 abbrev pub Replied : (number millikelvin pascals slot : ℕ) → Figures → Type 0
-Replied number millikelvin pascals slot = Told number millikelvin pascals (slotChecks slot 64)
+Replied number millikelvin pascals slot = Told number millikelvin pascals (inBook slot)
 
 pub record RightAnswer (fluid : Fluid) (millikelvin pascals critical-millikelvin critical-pascals : ℕ) (reduced : Reduced) (slots : Span) (reply : Reply) : Type 0 where
   pub is-critical-millikelvin : critical-millikelvin ≡ criticalMillikelvin fluid millikelvin

@@ -7,8 +7,10 @@ use fluid::Reduction;
 use libc::STDOUT_FILENO;
 use state::Reply;
 
-// What a book holds before a call, its slot aside.
-const FILLING: u32 = 7;
+// What each byte of a book is before a call, its slot's own aside.
+const FILLING: u8 = 7;
+
+const LONGEST_BOOK: usize = 256;
 
 fn say(text: &[u8]) {
     io::write_all(STDOUT_FILENO, text);
@@ -74,65 +76,67 @@ fn worked_through(fluid: u64, millikelvin: u64, pascals: u64) {
     say(b"\n");
 }
 
-fn wide(number: u32) -> u64 {
-    number as u64
-}
-
-fn put(book: &mut [u32], slot: usize, number: u32) {
-    if slot < book.len() {
-        book[slot] = number;
+fn put_byte(book: &mut [u8], place: usize, byte: u8) {
+    if place < book.len() {
+        book[place] = byte;
     }
 }
 
-fn say_held(place: usize, number: u32) {
-    if number == FILLING {
+fn put(book: &mut [u8], slot: u8, start: u64) {
+    let first = 3 * slot as usize;
+    put_byte(book, first, (start % 256) as u8);
+    put_byte(book, first + 1, (start / 256 % 256) as u8);
+    put_byte(book, first + 2, (start / 65_536 % 256) as u8);
+}
+
+fn say_held(place: usize, byte: u8) {
+    if byte == FILLING {
         return;
     }
-    say_number(b"; ", place as u64);
-    say_number(b" holds ", wide(number));
+    say_number(b"; byte ", place as u64);
+    say_number(b" is ", byte as u64);
 }
 
-// Names each number of the book that is not the filling.
-fn say_book(book: &[u32]) {
+// Names each byte of the book that is not the filling.
+fn say_book(book: &[u8]) {
     for place in 0..book.len() {
         say_held(place, book[place]);
     }
 }
 
-// Asks with a book full of the filling, but for the start in the slot, if it has that slot; and says what
+// Asks with a book full of the filling, but for the start in the slot, if it has those bytes; and says what
 // it holds after the call.
 fn asked_with_book(
     fluid: u64,
     millikelvin: u64,
     pascals: u64,
-    slot: usize,
-    start: u32,
-    book: &mut [u32],
+    slot: u8,
+    start: u64,
+    book: &mut [u8],
 ) {
     put(book, slot, start);
     say_state(fluid, millikelvin, pascals);
     say_number(b", slot ", slot as u64);
     say_number(b" of ", book.len() as u64);
-    say_number(b", start ", wide(start));
+    say_number(b" bytes, start ", start);
     let reply = state::ask_with_book(fluid, millikelvin, pascals, slot as u64, book);
     say_reply(reply);
     say_book(book);
     say(b"\n");
 }
 
-fn asked_with_63(fluid: u64, millikelvin: u64, pascals: u64, slot: usize, start: u32) {
-    let mut book = [FILLING; 63];
-    asked_with_book(fluid, millikelvin, pascals, slot, start, &mut book);
-}
-
-fn asked_with_64(fluid: u64, millikelvin: u64, pascals: u64, slot: usize, start: u32) {
-    let mut book = [FILLING; 64];
-    asked_with_book(fluid, millikelvin, pascals, slot, start, &mut book);
-}
-
-fn asked_with_65(fluid: u64, millikelvin: u64, pascals: u64, slot: usize, start: u32) {
-    let mut book = [FILLING; 65];
-    asked_with_book(fluid, millikelvin, pascals, slot, start, &mut book);
+fn asked_with(length: usize, fluid: u64, millikelvin: u64, pascals: u64, slot: u8, start: u64) {
+    let mut book = [FILLING; LONGEST_BOOK];
+    if length <= LONGEST_BOOK {
+        asked_with_book(
+            fluid,
+            millikelvin,
+            pascals,
+            slot,
+            start,
+            &mut book[..length],
+        );
+    }
 }
 
 fn solved(a: u64, b: u64, start: u64) {
@@ -173,28 +177,32 @@ fn refused_states() {
     asked(1, 1_000_001, 50_000_001);
 }
 
-// A call that is answered writes its gas root into its slot, one that is refused writes nothing.
+// A call that is answered writes its gas root into its slot, one that is refused writes nothing. 64 is how
+// many numbers a book had in document 01.
 fn books() {
-    asked_with_64(1, 300_000, 1_000_000, 63, 0);
-    asked_with_64(1, 300_000, 1_000_000, 64, 0);
-    asked_with_63(1, 300_000, 1_000_000, 62, 99_286);
-    asked_with_65(1, 300_000, 1_000_000, 62, 99_286);
-    asked_with_64(2, 0, 0, 62, 99_286);
-    asked_with_64(1, 55_999, 0, 62, 99_286);
-    asked_with_64(1, 56_000, 9_999, 62, 99_286);
-    asked_with_63(1, 56_000, 9_999, 64, 99_286);
+    asked_with(192, 1, 300_000, 1_000_000, 63, 0);
+    asked_with(192, 1, 300_000, 1_000_000, 64, 0);
+    asked_with(64, 1, 300_000, 1_000_000, 20, 99_286);
+    asked_with(191, 1, 300_000, 1_000_000, 62, 99_286);
+    asked_with(193, 1, 300_000, 1_000_000, 62, 99_286);
+    asked_with(256, 1, 300_000, 1_000_000, 64, 99_286);
+    asked_with(192, 2, 0, 0, 62, 99_286);
+    asked_with(192, 1, 55_999, 0, 62, 99_286);
+    asked_with(192, 1, 56_000, 9_999, 62, 99_286);
+    asked_with(191, 1, 56_000, 9_999, 64, 99_286);
 }
 
-// Two roots, and a start that is one of them, beside one of them, at the bend of g, or any number at all:
-// a search that trusts its start, or stops at any sign change, may answer with the other root.
+// Two roots, and a start that is one of them, beside one of them, at the bend of g, or the largest that
+// three bytes hold: a search that trusts its start, or stops at any sign change, may answer with the other
+// root.
 fn starts() {
-    asked_with_64(1, 120_000, 500_000, 5, 0);
-    asked_with_64(1, 120_000, 500_000, 5, 1_699);
-    asked_with_64(1, 120_000, 500_000, 5, 1_700);
-    asked_with_64(1, 120_000, 500_000, 5, 33_333);
-    asked_with_64(1, 120_000, 500_000, 5, 92_696);
-    asked_with_64(1, 120_000, 500_000, 5, 92_697);
-    asked_with_64(1, 120_000, 500_000, 5, 4_294_967_295);
+    asked_with(192, 1, 120_000, 500_000, 5, 0);
+    asked_with(192, 1, 120_000, 500_000, 5, 1_699);
+    asked_with(192, 1, 120_000, 500_000, 5, 1_700);
+    asked_with(192, 1, 120_000, 500_000, 5, 33_333);
+    asked_with(192, 1, 120_000, 500_000, 5, 92_696);
+    asked_with(192, 1, 120_000, 500_000, 5, 92_697);
+    asked_with(192, 1, 120_000, 500_000, 5, 16_777_215);
 }
 
 fn errors_that_look_right() {

@@ -4,30 +4,33 @@ use crate::rounds::{beside, interleaved, pass, timing, Pass, Timing};
 use crate::{peer, proved};
 use second::random::Random;
 use second::sheet::State;
-use second::state::reply;
+use second::state::{bytes_of_slot, reply, SLOT_BYTES};
 use std::hint::black_box;
 use woolyard::boundary::{FIGURES, SIDE_FIGURES};
-use woolyard::{Kind, Side, BOOK_LENGTH};
+use woolyard::{Kind, Side, BOOK_BYTES};
 
 /// The slot that every start is written into, just before the call.
 const SLOT: usize = 17;
 
+/// What a slot holds, as its bytes.
+type Start = [u8; SLOT_BYTES];
+
 /// What is written into the slot for each state, prepared before any clock runs: its own gas root,
 /// that of another state, or zero.
 pub struct Starts {
-    own: Vec<u32>,
-    strangers: Vec<u32>,
-    zeros: Vec<u32>,
+    own: Vec<Start>,
+    strangers: Vec<Start>,
+    zeros: Vec<Start>,
 }
 
 impl Starts {
     /// Also checks that no start changes an answer, and that the slot holds the gas root after it.
     pub fn new(states: &[State], random: &mut Random) -> Starts {
-        let gas_root = |state| u32::try_from(proved::answer(state).gas_root).expect("32 bits");
-        let own: Vec<u32> = states.iter().map(gas_root).collect();
+        let gas_root = |state| bytes_of_slot(proved::answer(state).gas_root);
+        let own: Vec<Start> = states.iter().map(gas_root).collect();
         let mut any = || own[random.number() as usize % own.len()];
-        let strangers: Vec<u32> = own.iter().map(|_| any()).collect();
-        let zeros = vec![0; own.len()];
+        let strangers: Vec<Start> = own.iter().map(|_| any()).collect();
+        let zeros = vec![[0; SLOT_BYTES]; own.len()];
         for starts in [&own, &strangers, &zeros] {
             assert_unchanged(states, starts, &own);
         }
@@ -45,15 +48,22 @@ pub fn split(states: &[State]) -> usize {
     states.iter().filter(is_split).count()
 }
 
-fn assert_unchanged(states: &[State], starts: &[u32], gas_roots: &[u32]) {
-    let mut book = [0; BOOK_LENGTH];
+/// The bytes of the slot.
+#[inline]
+fn slot_of(book: &mut [u8; BOOK_BYTES]) -> &mut Start {
+    let bytes = &mut book[SLOT_BYTES * SLOT..];
+    bytes.first_chunk_mut().expect("a slot of the book")
+}
+
+fn assert_unchanged(states: &[State], starts: &[Start], gas_roots: &[Start]) {
+    let mut book = [0; BOOK_BYTES];
     let [mut without, mut with] = [[0; FIGURES]; 2];
     for ((state, start), gas_root) in states.iter().zip(starts).zip(gas_roots) {
-        book[SLOT] = *start;
+        *slot_of(&mut book) = *start;
         let number = proved::state(state, &mut without);
         let number_with_book = proved::state_with_book(state, SLOT, &mut book, &mut with);
         assert_eq!((number_with_book, with), (number, without), "{state:?}");
-        assert_eq!(book[SLOT], *gas_root, "{state:?}");
+        assert_eq!(slot_of(&mut book), gas_root, "{state:?}");
     }
 }
 
@@ -135,13 +145,13 @@ fn calls<'a, Figure: Copy + Default + 'a, const COUNT: usize>(
 }
 
 /// A start is written before each call, whatever it is, so that this costs the same for all.
-fn with_book<'a>(states: &'a [State], starts: &'a [u32]) -> Pass<'a> {
+fn with_book<'a>(states: &'a [State], starts: &'a [Start]) -> Pass<'a> {
     let mut figures = [0; FIGURES];
-    let mut book = [0; BOOK_LENGTH];
+    let mut book = [0; BOOK_BYTES];
     Box::new(move || {
         let mut start = starts.iter();
         pass(states, |state| {
-            book[SLOT] = *start.next().expect("a start for each state");
+            *slot_of(&mut book) = *start.next().expect("a start for each state");
             black_box(proved::state_with_book(
                 state,
                 SLOT,

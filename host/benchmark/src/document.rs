@@ -63,9 +63,9 @@ doubles, with the cubic solver of the GNU Scientific Library (GSL).
 - The job in doubles, `host/benchmark/peer.c` by gcc with -O2, has the same questions, refusals, formulas
   and five figures, without the roundings to whole numbers.
 - A call for one side, gas or dense, answers the root and the density of that side and nothing else.
-- A book holds starting points, which change how long an answer takes and never what it is. One is
-  written into the slot before each call: the state's own gas root, as where a state is asked again; a
-  stranger's, which is that of another state, drawn at random; or zero.
+- A book holds starting points, three bytes each, which change how long an answer takes and never what it
+  is. One is written into the slot before each call: the state's own gas root, as where a state is asked
+  again; a stranger's, which is that of another state, drawn at random; or zero.
 - Before the clock runs, every call with a book is checked to answer what the call without one does, and
   every call for a side what the whole call answers of it.
 - The plain scan is the second implementation's, which looks at every place of the grid. It answers

@@ -2,7 +2,7 @@
 
 use second::sheet::State;
 use woolyard::boundary::{self, FIGURES, SIDE_FIGURES};
-use woolyard::{Answer, Fluid, Side, BOOK_LENGTH};
+use woolyard::{Answer, Fluid, Side, BOOK_BYTES};
 
 /// The reply's number; the figures are written.
 #[inline]
@@ -15,7 +15,7 @@ pub fn state(state: &State, figures: &mut [u64; FIGURES]) -> u64 {
 pub fn state_with_book(
     state: &State,
     slot: usize,
-    book: &mut [u32; BOOK_LENGTH],
+    book: &mut [u8; BOOK_BYTES],
     figures: &mut [u64; FIGURES],
 ) -> u64 {
     let State {

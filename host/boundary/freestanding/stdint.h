@@ -3,7 +3,6 @@
 #define FREESTANDING_STDINT_H
 
 typedef unsigned char uint8_t;
-typedef unsigned int uint32_t;
 typedef unsigned long uint64_t;
 
 #endif

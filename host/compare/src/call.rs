@@ -29,7 +29,7 @@ pub const NAMES: [&str; 7] = [
 const NOT_YET_MADE: u64 = u64::MAX;
 
 /// Before the call it holds the question, and after it the answer too, so that two calls are compared
-/// whole: the number, every place, and every lent element, those past the told length among them.
+/// whole: the number, every place, and every lent byte, those past the told length among them.
 #[derive(Clone, Debug, PartialEq, Eq)]
 pub struct Call {
     pub function: Function,
@@ -37,9 +37,9 @@ pub struct Call {
     pub arguments: [u64; 5],
     /// What the function fills in, as far as it has so many; the rest must stay as it was.
     pub places: [u64; 5],
-    pub book: Vec<u32>,
+    pub book: Vec<u8>,
     pub sheet: Vec<u8>,
-    /// How many elements of the book or the sheet the function is told of. More may lie behind.
+    /// How many bytes of the book or the sheet the function is told of. More may lie behind.
     pub length: usize,
     /// The reply's number.
     pub number: u64,
@@ -65,8 +65,8 @@ impl Call {
         Call::new(Function::State, state)
     }
 
-    /// The first `length` numbers of `book` are the book.
-    pub fn state_with_book(state: [u64; 3], slot: u64, book: &[u32], length: usize) -> Call {
+    /// The first `length` bytes of `book` are the book.
+    pub fn state_with_book(state: [u64; 3], slot: u64, book: &[u8], length: usize) -> Call {
         let [fluid, millikelvin, pascals] = state;
         let arguments = [fluid, millikelvin, pascals, slot];
         Call {
@@ -85,7 +85,7 @@ impl Call {
         state: [u64; 3],
         side: u64,
         slot: u64,
-        book: &[u32],
+        book: &[u8],
         length: usize,
     ) -> Call {
         let [fluid, millikelvin, pascals] = state;

@@ -50,7 +50,7 @@ impl Comparison {
     pub fn ask(&mut self, mut call: Call) -> Outcome {
         call.places = [(); 5].map(|()| self.junk());
         self.counts[call.function as usize] += 1;
-        self.lent_bytes += 4 * call.book.len() + call.sheet.len();
+        self.lent_bytes += call.book.len() + call.sheet.len();
         self.waiting.push(call);
         if self.waiting.len() >= MOST_CALLS || self.lent_bytes >= MOST_LENT_BYTES {
             return self.settle();
@@ -101,6 +101,7 @@ fn made(boundary: &mut dyn Boundary, questions: &[Call]) -> io::Result<Vec<Call>
 #[cfg(test)]
 mod tests {
     use super::*;
+    use second::state::bytes_of_slot;
 
     /// The second implementation in the archive's stead, with one answer changed.
     struct Changed(fn(&mut Call));
@@ -127,8 +128,8 @@ mod tests {
             Call::state(state),
             Call::heat(0),
             Call::sheet(b"0\n0\n0", 4),
-            Call::side_with_book(state, 1, 63, &[7; 66], 64),
-            Call::state_with_book(state, 63, &[7; 66], 64),
+            Call::side_with_book(state, 1, 63, &[7; 195], 192),
+            Call::state_with_book(state, 63, &[7; 195], 192),
         ]
     }
 
@@ -137,15 +138,19 @@ mod tests {
         assert_eq!(outcome(calls(), |_| ()), Ok(()));
     }
 
-    /// In the number, in a figure, in the slot, in another place of the book, and past its end.
+    /// In the number, in a figure, in each byte of the slot, in the byte before it, in the first of the
+    /// book, and past its end.
     #[test]
     fn differences() {
-        let changes: [fn(&mut Call); 5] = [
+        let changes: [fn(&mut Call); 8] = [
             |call| call.number = 4,
             |call| call.places[4] += 1,
-            |call| call.book[63] = 7,
-            |call| call.book[0] = 92_696,
-            |call| call.book[64] = 92_696,
+            |call| call.book[189] = 7,
+            |call| call.book[190] = 7,
+            |call| call.book[191] = 7,
+            |call| call.book[188] = 0x18,
+            |call| call.book[0] = 0x18,
+            |call| call.book[192] = 0,
         ];
         for change in changes {
             let told = outcome(calls(), change).expect_err("a difference");
@@ -158,13 +163,13 @@ mod tests {
     #[test]
     fn differences_of_a_side() {
         let state = [1, 120_000, 500_000];
-        let side = || vec![Call::side_with_book(state, 1, 63, &[7; 66], 64)];
+        let side = || vec![Call::side_with_book(state, 1, 63, &[7; 195], 192)];
         assert_eq!(outcome(side(), |_| ()), Ok(()));
         let changes: [fn(&mut Call); 4] = [
             |call| call.number = 12,
             |call| call.places[0] = 92_696,
             |call| call.places[1] = 17_299,
-            |call| call.book[63] = 1699,
+            |call| call.book[189..192].copy_from_slice(&bytes_of_slot(1699)),
         ];
         for change in changes {
             let told = outcome(side(), change).expect_err("a difference");

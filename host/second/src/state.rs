@@ -1,6 +1,6 @@
-//! Document 01, "Replies" to "The book of starting points", with the finer refusals, the gas constant and
-//! the named side of document 02 (C-12, C-16 and C-18): the reply to a state, as the papers write it.
-//! Every product has 128 bits, so that none needs a thought.
+//! Document 01, "Replies" to "The book of starting points", with the finer refusals, the gas constant, the
+//! named side and the book in bytes of document 02 (C-12, C-16, C-18 and C-19): the reply to a state, as
+//! the papers write it. Every product has 128 bits, so that none needs a thought.
 
 use crate::cubic::crossings;
 
@@ -28,8 +28,10 @@ const MOLAR_MASS: [u128; 2] = [201_594, 3_199_880];
 /// In millionths of a J/(kmol K).
 const GAS_CONSTANT: u128 = 8_314_462_618;
 
-/// How many numbers a book has.
-pub const BOOK: usize = 64;
+/// How many slots a book has, how many bytes each of them takes, and how many the book does.
+pub const BOOK_SLOTS: usize = 64;
+pub const SLOT_BYTES: usize = 3;
+pub const BOOK_BYTES: usize = BOOK_SLOTS * SLOT_BYTES;
 
 /// A reply's number, kind, roots and densities: all but the number are zeros where it is refused.
 #[derive(Clone, Copy, Debug, Default, PartialEq, Eq)]
@@ -173,21 +175,37 @@ pub fn reply_with_book(
     millikelvin: u64,
     pascals: u64,
     slot: u64,
-    book: &mut [u32],
+    book: &mut [u8],
 ) -> Reply {
     put_into_book(reply(fluid, millikelvin, pascals), slot, book)
 }
 
 /// What a book makes of the reply to the same call without one.
-pub fn put_into_book(without: Reply, slot: u64, book: &mut [u32]) -> Reply {
+pub fn put_into_book(without: Reply, slot: u64, book: &mut [u8]) -> Reply {
     if without.number != 0 {
         return without;
     }
-    if book.len() != BOOK || slot >= BOOK as u64 {
+    if book.len() != BOOK_BYTES || slot >= BOOK_SLOTS as u64 {
         return refused(4);
     }
-    book[slot as usize] = u32::try_from(without.gas_root).expect("a root of 32 bits");
+    let bytes = &mut book[SLOT_BYTES * slot as usize..][..SLOT_BYTES];
+    bytes.copy_from_slice(&bytes_of_slot(without.gas_root));
     without
+}
+
+/// A slot that holds this number, the lowest byte first.
+pub fn bytes_of_slot(number: u64) -> [u8; SLOT_BYTES] {
+    let [low, middle, high, rest @ ..] = number.to_le_bytes();
+    assert_eq!(rest, [0; 5], "a number of three bytes");
+    [low, middle, high]
+}
+
+/// What the slots of a book hold, from the first on.
+pub fn numbers_of_slots(book: &[u8; BOOK_BYTES]) -> [u32; BOOK_SLOTS] {
+    std::array::from_fn(|slot| {
+        let first = SLOT_BYTES * slot;
+        u32::from_le_bytes([book[first], book[first + 1], book[first + 2], 0])
+    })
 }
 
 /// The reply to a call that names the side, without a book.
@@ -219,19 +237,32 @@ pub fn side_reply_with_book(
     pascals: u64,
     side: u64,
     slot: u64,
-    book: &mut [u32],
+    book: &mut [u8],
 ) -> SideReply {
     put_side_into_book(reply(fluid, millikelvin, pascals), side, slot, book)
 }
 
 /// What a book makes of a named side of the whole reply to the same state. Refusal 4 comes after 12, and
 /// whichever side is named, it is the gas root that is written.
-pub fn put_side_into_book(whole: Reply, side: u64, slot: u64, book: &mut [u32]) -> SideReply {
+pub fn put_side_into_book(whole: Reply, side: u64, slot: u64, book: &mut [u8]) -> SideReply {
     let without = side_of(whole, side);
     if without.number != 0 {
         return without;
     }
     side_of(put_into_book(whole, slot, book), side)
+}
+
+/// The book of document 01 before C-19, 64 numbers of 32 bits: what it makes of the number of the reply to
+/// the same call without a book. An answered call writes the gas root into its slot, a refused one nothing.
+pub fn put_into_numbers(without: u64, gas_root: u64, slot: u64, numbers: &mut [u32]) -> u64 {
+    if without != 0 {
+        return without;
+    }
+    if numbers.len() != 64 || slot > 63 {
+        return 4;
+    }
+    numbers[slot as usize] = u32::try_from(gas_root).expect("a root of 32 bits");
+    0
 }
 
 fn refused(number: u64) -> Reply {
@@ -428,7 +459,7 @@ mod tests {
     /// The first refusal that applies is the one given, and none writes.
     #[test]
     fn order_of_the_refusals() {
-        let mut book = [7; BOOK];
+        let mut book = [7; BOOK_BYTES];
         let mut call = |fluid, millikelvin, pascals| {
             reply_with_book(fluid, millikelvin, pascals, 64, &mut book)
         };
@@ -438,19 +469,7 @@ mod tests {
         assert_eq!(call(OXYGEN, 300_000, 0), refused(31));
         assert_eq!(call(OXYGEN, 300_000, u64::MAX), refused(32));
         assert_eq!(call(OXYGEN, 300_000, 1_000_000), refused(4));
-        assert_eq!(book, [7; BOOK]);
-    }
-
-    #[test]
-    fn slots_of_the_book() {
-        let call = |slot, book: &mut [u32]| reply_with_book(OXYGEN, 300_000, 1_000_000, slot, book);
-        let mut book = [7; BOOK];
-        assert_eq!(call(64, &mut book), refused(4));
-        assert_eq!(call(u64::MAX, &mut book), refused(4));
-        assert_eq!(call(63, &mut book), one(99_286, 12_920));
-        assert_eq!((&book[..63], book[63]), (&[7; 63][..], 99_286));
-        assert_eq!(call(0, &mut [7; 63]), refused(4));
-        assert_eq!(call(0, &mut [7; 65]), refused(4));
+        assert_eq!(book, [7; BOOK_BYTES]);
     }
 
     // Document 02, C-18.
@@ -528,7 +547,7 @@ mod tests {
             (HYDROGEN, 14_000, 0, 31),
             (HYDROGEN, 1_000_000, u64::MAX, 32),
         ];
-        let mut book = [7; BOOK];
+        let mut book = [7; BOOK_BYTES];
         for (fluid, millikelvin, pascals, number) in states {
             for side in [GAS, DENSE].into_iter().chain(NO_SIDES) {
                 let without = side_reply(fluid, millikelvin, pascals, side);
@@ -540,7 +559,7 @@ mod tests {
                 }
             }
         }
-        assert_eq!(book, [7; BOOK]);
+        assert_eq!(book, [7; BOOK_BYTES]);
     }
 
     /// For both kinds of state, at the slots and book lengths that are answered and those that are not.
@@ -550,8 +569,7 @@ mod tests {
             for side in NO_SIDES {
                 let refused = side_refused(12);
                 assert_eq!(side_reply(OXYGEN, millikelvin, pascals, side), refused);
-                for (slot, length) in [(0, 64), (63, 64), (64, 64), (u64::MAX, 64), (0, 63), (0, 0)]
-                {
+                for (slot, length) in [(0, 192), (63, 192)].into_iter().chain(NO_SLOTS) {
                     let mut book = vec![7; length];
                     let reply =
                         side_reply_with_book(OXYGEN, millikelvin, pascals, side, slot, &mut book);
@@ -561,25 +579,104 @@ mod tests {
         }
     }
 
-    /// The gas root is written for both sides, and no other place is touched; 4 as in the whole form.
+    /// The gas root is written for both sides, and no other byte is touched; 4 as in the whole form.
     #[test]
     fn slots_of_the_book_with_a_side() {
         for (side, expected) in [
             (GAS, one_side(92_696, 17_299)),
             (DENSE, one_side(1699, 943_832)),
         ] {
-            let call = |slot, book: &mut [u32]| {
+            let call = |slot, book: &mut [u8]| {
                 side_reply_with_book(OXYGEN, 120_000, 500_000, side, slot, book)
             };
-            let mut book = [7; BOOK];
-            assert_eq!(call(64, &mut book), side_refused(4));
-            assert_eq!(call(u64::MAX, &mut book), side_refused(4));
-            assert_eq!(book, [7; BOOK]);
-            assert_eq!(call(63, &mut book), expected);
-            assert_eq!((&book[..63], book[63]), (&[7; 63][..], 92_696));
-            assert_eq!(call(0, &mut [7; 63]), side_refused(4));
-            assert_eq!(call(0, &mut [7; 65]), side_refused(4));
+            for (slot, length) in NO_SLOTS {
+                let mut book = vec![7; length];
+                assert_eq!(call(slot, &mut book), side_refused(4));
+                assert_eq!(book, vec![7; length]);
+            }
+            for slot in 0..64 {
+                let mut book = [7; BOOK_BYTES];
+                assert_eq!(call(slot, &mut book), expected);
+                assert_eq!(book, sevens_but(slot, [0x18, 0x6A, 0x01]));
+            }
         }
+    }
+
+    // Document 02, C-19.
+
+    /// Slots and lengths of books that are refused by 4.
+    const NO_SLOTS: [(u64, usize); 8] = [
+        (64, 192),
+        (u64::MAX, 192),
+        (0, 0),
+        (0, 1),
+        (0, 64),
+        (0, 191),
+        (0, 193),
+        (0, 256),
+    ];
+
+    /// A book of sevens with these bytes in one slot.
+    fn sevens_but(slot: u64, bytes: [u8; SLOT_BYTES]) -> [u8; BOOK_BYTES] {
+        let mut book = [7; BOOK_BYTES];
+        book[3 * slot as usize..][..3].copy_from_slice(&bytes);
+        book
+    }
+
+    #[test]
+    fn slots_of_the_book() {
+        let call = |slot, book: &mut [u8]| reply_with_book(OXYGEN, 300_000, 1_000_000, slot, book);
+        for (slot, length) in NO_SLOTS {
+            let mut book = vec![7; length];
+            assert_eq!(call(slot, &mut book), refused(4));
+            assert_eq!(book, vec![7; length]);
+        }
+        for slot in 0..64 {
+            let mut book = [7; BOOK_BYTES];
+            assert_eq!(call(slot, &mut book), one(99_286, 12_920));
+            assert_eq!(book, sevens_but(slot, [0xD6, 0x83, 0x01]));
+        }
+    }
+
+    /// No root is above N + b, and b is greatest at the lowest temperature and the highest pressure.
+    #[test]
+    fn every_root_fits_three_bytes() {
+        for (fluid, coldest) in [(HYDROGEN, 14_000), (OXYGEN, 56_000)] {
+            let [.., b] = coefficients(fluid, coldest, HIGHEST_PRESSURE);
+            assert!(N + b < 1 << 24);
+        }
+    }
+
+    /// The ends of three bytes, and each byte alone.
+    #[test]
+    fn numbers_of_three_bytes() {
+        for (number, bytes) in [
+            (0, [0, 0, 0]),
+            (1, [1, 0, 0]),
+            (256, [0, 1, 0]),
+            (65_536, [0, 0, 1]),
+            (92_696, [0x18, 0x6A, 0x01]),
+            (16_777_215, [255, 255, 255]),
+        ] {
+            assert_eq!(bytes_of_slot(number.into()), bytes);
+            for slot in [0, 5, 63] {
+                let mut expected = [7 * 65_536 + 7 * 256 + 7; BOOK_SLOTS];
+                expected[slot as usize] = number;
+                assert_eq!(numbers_of_slots(&sevens_but(slot, bytes)), expected);
+            }
+        }
+    }
+
+    /// The book before C-19 in its own words: an answered call writes, and a refused one does not.
+    #[test]
+    fn book_of_numbers() {
+        let mut numbers = [7; 64];
+        assert_eq!(put_into_numbers(21, 92_696, 63, &mut numbers), 21);
+        assert_eq!(put_into_numbers(0, 92_696, 64, &mut numbers), 4);
+        assert_eq!(put_into_numbers(0, 92_696, 0, &mut numbers[..63]), 4);
+        assert_eq!(numbers, [7; 64]);
+        assert_eq!(put_into_numbers(0, 92_696, 63, &mut numbers), 0);
+        assert_eq!((&numbers[..63], numbers[63]), (&[7; 63][..], 92_696));
     }
 
     // Document 01, "Errors that look right".

@@ -44,9 +44,10 @@ fn main() -> Result<(), Refusal> {
         println!("its side 2: reply {}", refusal.number());
     }
 
-    let mut book = [0; woolyard::BOOK_LENGTH];
+    let mut book = [0; woolyard::BOOK_BYTES];
     woolyard::state_with_book(Fluid::Oxygen, 120_000, 500_000, 5, &mut book)?;
-    println!("with a book: reply 0, and slot 5 holds {}", book[5]);
+    let slot = u32::from_le_bytes([book[15], book[16], book[17], 0]);
+    println!("with a book: reply 0, and slot 5 holds {slot}");
 
     if let Err(refusal) = woolyard::state(Fluid::Oxygen, 55_999, 500_000) {
         println!("oxygen at 55999 mK: reply {}", refusal.number());

@@ -27,7 +27,7 @@ mod foreign {
             millikelvin: u64,
             pascals: u64,
             slot: u64,
-            book: *mut u32,
+            book: *mut u8,
             book_length: usize,
             figures: *mut [u64; super::FIGURES],
         ) -> u64;
@@ -44,7 +44,7 @@ mod foreign {
             pascals: u64,
             side: u64,
             slot: u64,
-            book: *mut u32,
+            book: *mut u8,
             book_length: usize,
             figures: *mut [u64; super::SIDE_FIGURES],
         ) -> u64;
@@ -73,12 +73,12 @@ pub fn state_with_book(
     millikelvin: u64,
     pascals: u64,
     slot: u64,
-    book: &mut [u32],
+    book: &mut [u8],
     figures: &mut [u64; FIGURES],
 ) -> u64 {
     let length = book.len();
     let book = book.as_mut_ptr();
-    // SAFETY: `book` has `length` places, `figures` five; both are `&mut`, so they lie apart.
+    // SAFETY: `book` has `length` bytes, `figures` five places; both are `&mut`, so they lie apart.
     unsafe {
         foreign::woolyard_state_with_book(fluid, millikelvin, pascals, slot, book, length, figures)
     }
@@ -105,12 +105,12 @@ pub fn side_with_book(
     pascals: u64,
     side: u64,
     slot: u64,
-    book: &mut [u32],
+    book: &mut [u8],
     figures: &mut [u64; SIDE_FIGURES],
 ) -> u64 {
     let length = book.len();
     let book = book.as_mut_ptr();
-    // SAFETY: `book` has `length` places, `figures` two; both are `&mut`, so they lie apart.
+    // SAFETY: `book` has `length` bytes, `figures` two places; both are `&mut`, so they lie apart.
     unsafe {
         foreign::woolyard_side_with_book(
             fluid,

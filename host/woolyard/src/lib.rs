@@ -30,8 +30,8 @@ mod tests;
 use boundary::{FIGURES, SIDE_FIGURES};
 pub use reply::{Answer, FaultySheet, Fluid, Kind, Refusal, Side, SideAnswer, State};
 
-/// How many numbers a book has.
-pub const BOOK_LENGTH: usize = 64;
+/// How many bytes a book has.
+pub const BOOK_BYTES: usize = 192;
 
 /// How many bytes a sheet may have.
 pub const SHEET_MOST_BYTES: usize = 65_536;
@@ -43,16 +43,27 @@ pub fn state(fluid: Fluid, millikelvin: u64, pascals: u64) -> Result<Answer, Ref
     answer(number, figures)
 }
 
-/// The same with a book of starting points, 64 numbers of 32 bits, holding anything at all. An answered
-/// call writes the gas root into its slot and touches no other place; a refused call writes nothing to
-/// the book. What the book holds changes how long an answer takes, never what it is. The first of
-/// refusals 21, 22, 31, 32 and 4 that applies is given.
+/// The same with a book of starting points, 192 bytes, holding anything at all. Slot k, from 0 to 63, has
+/// bytes 3 k to 3 k + 2, the lowest first. An answered call writes the gas root into the three bytes of
+/// its slot and touches no other byte; a refused call writes nothing to the book. What the book holds
+/// changes how long an answer takes, never what it is. The first of refusals 21, 22, 31, 32 and 4 that
+/// applies is given.
+///
+/// ```
+/// use woolyard::{Fluid, BOOK_BYTES};
+///
+/// let mut book = [0; BOOK_BYTES];
+/// let answer = woolyard::state_with_book(Fluid::Oxygen, 120_000, 500_000, 5, &mut book)?;
+/// let slot = u32::from_le_bytes([book[15], book[16], book[17], 0]);
+/// assert_eq!(u64::from(slot), answer.gas_root);
+/// # Ok::<(), woolyard::Refusal>(())
+/// ```
 pub fn state_with_book(
     fluid: Fluid,
     millikelvin: u64,
     pascals: u64,
     slot: u64,
-    book: &mut [u32],
+    book: &mut [u8],
 ) -> Result<Answer, Refusal> {
     let mut figures = [0; FIGURES];
     let fluid = fluid.number();
@@ -75,7 +86,7 @@ pub fn side(
 }
 
 /// The same with a book, which is used as [`state_with_book`] uses it: an answered call writes the gas root
-/// into its slot, whichever side is named, and touches no other place; a refused call writes nothing to
+/// into its slot, whichever side is named, and touches no other byte; a refused call writes nothing to
 /// the book. The first of refusals 21, 22, 31, 32 and 4 that applies is given.
 pub fn side_with_book(
     fluid: Fluid,
@@ -83,7 +94,7 @@ pub fn side_with_book(
     pascals: u64,
     side: Side,
     slot: u64,
-    book: &mut [u32],
+    book: &mut [u8],
 ) -> Result<SideAnswer, Refusal> {
     let mut figures = [0; SIDE_FIGURES];
     let [fluid, side] = [fluid.number(), side.number()];

@@ -146,7 +146,7 @@ impl fmt::Display for Refusal {
             Refusal::PressureTooLow => "pressure below the range",
             Refusal::PressureTooHigh => "pressure above the range",
             Refusal::NoSuchSide => "side is neither 0 nor 1",
-            Refusal::NoSuchSlot => "book not of 64 numbers, or slot above 63",
+            Refusal::NoSuchSlot => "book not of 192 bytes, or slot above 63",
             Refusal::HeatOutOfRange => "heat-capacity temperature not a number in 14 to 1000 K",
             Refusal::SheetMalformed => "sheet badly formed",
             Refusal::SheetTooLong => "sheet longer than 65,536 bytes",

@@ -1,4 +1,4 @@
-//! Document 01, "Points worked through" and "State sheets", and document 02, C-18.
+//! Document 01, "Points worked through" and "State sheets", and document 02, C-18 and C-19.
 
 use super::*;
 
@@ -60,14 +60,32 @@ fn fluids() {
 #[test]
 fn slots_of_the_book() {
     let call =
-        |slot, book: &mut [u32]| state_with_book(Fluid::Oxygen, 300_000, 1_000_000, slot, book);
-    let mut book = [7; BOOK_LENGTH];
-    assert_eq!(call(64, &mut book), Err(Refusal::NoSuchSlot));
-    assert_eq!(call(0, &mut book[..63]), Err(Refusal::NoSuchSlot));
-    assert_eq!(call(0, &mut []), Err(Refusal::NoSuchSlot));
-    assert_eq!(book, [7; BOOK_LENGTH]);
-    assert_eq!(call(63, &mut book), Ok(one(99_286, 12_920)));
-    assert_eq!((&book[..63], book[63]), (&[7; 63][..], 99_286));
+        |slot, book: &mut [u8]| state_with_book(Fluid::Oxygen, 300_000, 1_000_000, slot, book);
+    for (slot, length) in [
+        (0, 0),
+        (0, 1),
+        (0, 64),
+        (0, 191),
+        (64, 192),
+        (0, 193),
+        (0, 256),
+    ] {
+        let mut book = vec![7; length];
+        assert_eq!(call(slot, &mut book), Err(Refusal::NoSuchSlot));
+        assert_eq!(book, vec![7; length]);
+    }
+    for slot in [0, 5, 63] {
+        let mut book = [7; BOOK_BYTES];
+        assert_eq!(call(slot, &mut book), Ok(one(99_286, 12_920)));
+        assert_eq!(book, sevens_but(slot, [0xD6, 0x83, 0x01]));
+    }
+}
+
+/// A book of sevens with these bytes in one slot.
+fn sevens_but(slot: u64, bytes: [u8; 3]) -> [u8; BOOK_BYTES] {
+    let mut book = [7; BOOK_BYTES];
+    book[3 * slot as usize..][..3].copy_from_slice(&bytes);
+    book
 }
 
 /// Neither gas nor dense, though the second and third are those to whoever keeps 32 bits.
@@ -127,9 +145,9 @@ fn sides_that_are_neither() {
 /// 12 comes after 32 and before 4, at a good slot and a bad one, and nothing is written to the book.
 #[test]
 fn sides_that_are_neither_with_a_book() {
-    let mut book = [7; BOOK_LENGTH];
+    let mut book = [7; BOOK_BYTES];
     for (side, slot) in NO_SIDES.map(|side| [(side, 5), (side, 64)]).concat() {
-        let call = |pascals, book: &mut [u32]| {
+        let call = |pascals, book: &mut [u8]| {
             let mut figures = [7; SIDE_FIGURES];
             let number =
                 boundary::side_with_book(1, 120_000, pascals, side, slot, book, &mut figures);
@@ -138,9 +156,9 @@ fn sides_that_are_neither_with_a_book() {
         };
         assert_eq!(call(50_000_001, &mut book), 32);
         assert_eq!(call(500_000, &mut book), 12);
-        assert_eq!(call(500_000, &mut book[..63]), 12);
+        assert_eq!(call(500_000, &mut book[..191]), 12);
     }
-    assert_eq!(book, [7; BOOK_LENGTH]);
+    assert_eq!(book, [7; BOOK_BYTES]);
 }
 
 /// Whichever side is named, the gas root is written.
@@ -150,17 +168,17 @@ fn slots_of_the_book_with_a_side() {
         (Side::Gas, one_side(92_696, 17_299)),
         (Side::Dense, one_side(1699, 943_832)),
     ] {
-        let call = |slot, book: &mut [u32]| {
+        let call = |slot, book: &mut [u8]| {
             side_with_book(Fluid::Oxygen, 120_000, 500_000, which, slot, book)
         };
-        let mut book = [7; BOOK_LENGTH];
+        let mut book = [7; BOOK_BYTES];
         assert_eq!(call(64, &mut book), Err(Refusal::NoSuchSlot));
-        assert_eq!(call(0, &mut book[..63]), Err(Refusal::NoSuchSlot));
-        assert_eq!(book, [7; BOOK_LENGTH]);
+        assert_eq!(call(0, &mut book[..191]), Err(Refusal::NoSuchSlot));
+        assert_eq!(book, [7; BOOK_BYTES]);
         // the second time the gas root is what the call starts from
         for _ in 0..2 {
             assert_eq!(call(63, &mut book), Ok(expected));
-            assert_eq!((&book[..63], book[63]), (&[7; 63][..], 92_696));
+            assert_eq!(book, sevens_but(63, [0x18, 0x6A, 0x01]));
         }
     }
 }

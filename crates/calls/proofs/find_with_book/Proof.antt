@@ -1,8 +1,8 @@
 -- `calls::find_with_book` meets its contract: a refusal is passed on with the book as it was, and the gas root of an accepted state is left in
--- the slot (`Finding.antt`). What the slot held is handed to the search and forgotten. Assumes nothing.
+-- the slot (`Finding.antt`). What the slot said is handed to the search and forgotten. Assumes nothing.
 use Rattle.refusals.specs.Checks.{with-value}
 use Rattle.calls.specs.Promise.{FindsAs}
-use Rattle.calls.proofs.Finding.{fits-slot, found-with-book, refused-by-slot, refused-before-slot}
+use Rattle.calls.proofs.Finding.{found-with-book, refused-by-slot, refused-before-slot}
 use borrow.Author.Needs.{needs}
 use Rattle.calls.proofs.find_with_book.Statement.{statement}
 use Rattle.calls.proofs.find_with_book.Tie as tie
@@ -43,9 +43,7 @@ enum-known-fluid : tie.Need-enum-known-fluid
 enum-known-fluid c = search needs
 
 leave-requires : tie.Need-leave-requires
-leave-requires c κs =
-    let start = c .before .before .before .before .before .before .before .before .args in
-    fits-slot (start .form) _ _ _ _ (found (c .before .before))
+leave-requires c κs = search needs
 
 same-length : tie.Need-same-length
 same-length c = search needs

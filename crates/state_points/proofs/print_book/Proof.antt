@@ -1,15 +1,15 @@
--- `state_points::print_book` is safe and ends. The loop's invariant: the slot has not gone past the book's end.
--- The measure is how many slots are left. Assumes nothing.
+-- `state_points::print_book` is safe and ends. The loop's invariant: the place has not gone past the book's end.
+-- The measure is how many bytes are left. Assumes nothing.
 use Prim.Native.Nat.{_-_, _≤_}
 use native.Mathlib.Omega.{arith}
 use Rattle.state_points.proofs.print_book.Statement.{statement}
 use Rattle.state_points.proofs.print_book.Tie as tie
 
 abbrev Inv-loop : tie.InvT-loop
-Inv-loop book slot₀ t4 slot-end slot = slot ≤ slot-end
+Inv-loop book place₀ t4 place-end place = place ≤ place-end
 
 abbrev μ-loop : tie.MeasureT-loop
-μ-loop book slot₀ t4 slot-end slot = slot-end - slot
+μ-loop book place₀ t4 place-end place = place-end - place
 
 slice-aggregate-write-all : tie.Need-slice-aggregate-write-all Inv-loop μ-loop
 slice-aggregate-write-all c = omega arith
@@ -20,9 +20,6 @@ write-all-requires c κs = omega arith
 loop-holds : tie.Need-loop-holds Inv-loop μ-loop
 loop-holds c = omega arith
 
-mul-wide : tie.Need-mul-wide Inv-loop μ-loop
-mul-wide c = omega arith
-
 shared-slice-read-wide : tie.Need-shared-slice-read-wide Inv-loop μ-loop
 shared-slice-read-wide c = omega arith
 
@@ -32,8 +29,8 @@ wide-requires c κs = omega arith
 print-after-space-requires : tie.Need-print-after-space-requires Inv-loop μ-loop
 print-after-space-requires c κs = omega arith
 
-add-slot : tie.Need-add-slot Inv-loop μ-loop
-add-slot c = omega arith
+add-place : tie.Need-add-place Inv-loop μ-loop
+add-place c = omega arith
 
 loop-less : tie.Need-loop-less Inv-loop μ-loop
 loop-less c = omega arith
@@ -52,4 +49,4 @@ returns c = omega arith
 
 pub print-book-spec : {M : Type 1} → statement M
 print-book-spec =
-    tie.close (tie.spec Inv-loop μ-loop slice-aggregate-write-all write-all-requires loop-holds mul-wide shared-slice-read-wide wide-requires print-after-space-requires add-slot loop-less loop-again slice-aggregate-write-all-2 write-all-requires-2 returns)
+    tie.close (tie.spec Inv-loop μ-loop slice-aggregate-write-all write-all-requires loop-holds shared-slice-read-wide wide-requires print-after-space-requires add-place loop-less loop-again slice-aggregate-write-all-2 write-all-requires-2 returns)

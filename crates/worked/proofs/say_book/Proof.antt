@@ -15,9 +15,6 @@ abbrev μ-loop : tie.MeasureT-loop
 loop-holds : tie.Need-loop-holds Inv-loop μ-loop
 loop-holds c = omega arith
 
-mul-say-held : tie.Need-mul-say-held Inv-loop μ-loop
-mul-say-held c = omega arith
-
 shared-slice-read-say-held : tie.Need-shared-slice-read-say-held Inv-loop μ-loop
 shared-slice-read-say-held c = omega arith
 
@@ -38,4 +35,4 @@ returns c = tt
 
 pub say-book-spec : {M : Type 1} → statement M
 say-book-spec =
-    tie.close (tie.spec Inv-loop μ-loop loop-holds mul-say-held shared-slice-read-say-held say-held-requires add-place loop-less loop-again returns)
+    tie.close (tie.spec Inv-loop μ-loop loop-holds shared-slice-read-say-held say-held-requires add-place loop-less loop-again returns)

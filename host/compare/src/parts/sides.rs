@@ -1,13 +1,13 @@
 //! Sides of any number, together with all else that can be refused: a state, a slot, a book's length.
 
-use super::books::{BEHIND, LENGTHS, SLOTS};
+use super::books::{any_book, BEHIND, LENGTHS, SLOTS};
 use super::states::{FLUID_NUMBERS, PRESSURES, TEMPERATURES};
 use super::{unit, NO_SIDES, WORKED};
 use crate::call::Call;
 use crate::comparison::{Comparison, Outcome};
 use crate::workers::Unit;
 use second::random::Random;
-use second::state::{BOOK, DENSE, GAS};
+use second::state::{BOOK_BYTES, BOOK_SLOTS, DENSE, GAS};
 
 const PART: &str = "sides";
 
@@ -34,7 +34,7 @@ pub fn units() -> Vec<Unit> {
 }
 
 /// A side that is neither at all combinations of the ends of the ranges: without a book, with one at its
-/// last slot, past it, and with one that is a number too short.
+/// last slot, past it, and with one that is a byte too short.
 fn ends(comparison: &mut Comparison, fluid: u64) -> Outcome {
     let mut random = Random(fluid);
     for millikelvin in TEMPERATURES {
@@ -42,8 +42,8 @@ fn ends(comparison: &mut Comparison, fluid: u64) -> Outcome {
             let state = [fluid, millikelvin, pascals];
             for side in NO_SIDES {
                 comparison.ask(Call::side(state, side))?;
-                let book = any_book(BOOK, &mut random);
-                for (slot, length) in [(63, BOOK), (64, BOOK), (0, BOOK - 1)] {
+                let book = any_book(BOOK_BYTES, &mut random);
+                for (slot, length) in [(63, BOOK_BYTES), (64, BOOK_BYTES), (0, BOOK_BYTES - 1)] {
                     comparison.ask(Call::side_with_book(state, side, slot, &book, length))?;
                 }
             }
@@ -71,14 +71,10 @@ fn any_sides(comparison: &mut Comparison, state: [u64; 3]) -> Outcome {
     let mut random = Random(state[1] ^ state[2]);
     for _ in 0..ANY_SIDES {
         let side = random.number() >> (random.number() % 64);
-        let slot = random.number() % BOOK as u64;
-        let book = any_book(BOOK, &mut random);
+        let slot = random.number() % BOOK_SLOTS as u64;
+        let book = any_book(BOOK_BYTES, &mut random);
         comparison.ask(Call::side(state, side))?;
-        comparison.ask(Call::side_with_book(state, side, slot, &book, BOOK))?;
+        comparison.ask(Call::side_with_book(state, side, slot, &book, BOOK_BYTES))?;
     }
     Ok(())
-}
-
-fn any_book(length: usize, random: &mut Random) -> Vec<u32> {
-    (0..length).map(|_| random.number() as u32).collect()
 }

@@ -1,12 +1,15 @@
 //! States of all kinds, each whole and by its sides, without a book and with one: document 01's, every end
 //! of a range, and a spread over all temperatures and all magnitudes of pressure.
 
+use super::books::{any_book, full_book};
 use super::{unit, FLUIDS, WORKED};
 use crate::call::Call;
 use crate::comparison::{Comparison, Outcome};
 use crate::workers::Unit;
 use second::random::Random;
-use second::state::{BOOK, DENSE, GAS, HIGHEST_PRESSURE, HOTTEST, LOWEST_PRESSURE};
+use second::state::{
+    BOOK_BYTES, BOOK_SLOTS, DENSE, GAS, HIGHEST_PRESSURE, HOTTEST, LOWEST_PRESSURE,
+};
 
 const PART: &str = "states";
 
@@ -71,21 +74,21 @@ pub fn units() -> Vec<Unit> {
 }
 
 /// The whole state and each of its sides, without a book and with one, at any slot of it. The book is
-/// empty, as a page begins with, or holds one number about as large as a root, or, as often as both,
-/// anything.
+/// empty, as a page begins with, or holds one number about as large as a root in every slot, or, as often
+/// as both, anything.
 pub fn every_form(comparison: &mut Comparison, state: [u64; 3], random: &mut Random) -> Outcome {
     comparison.ask(Call::state(state))?;
     let any = random.number();
-    let book: [u32; BOOK] = match any % 4 {
-        0 => [0; BOOK],
-        1 => [any as u32 >> 15; BOOK],
-        _ => [(); BOOK].map(|()| random.number() as u32),
+    let book = match any % 4 {
+        0 => vec![0; BOOK_BYTES],
+        1 => full_book(any >> 47, BOOK_BYTES),
+        _ => any_book(BOOK_BYTES, random),
     };
-    let slot = (any >> 32) % BOOK as u64;
-    comparison.ask(Call::state_with_book(state, slot, &book, BOOK))?;
+    let slot = (any >> 32) % BOOK_SLOTS as u64;
+    comparison.ask(Call::state_with_book(state, slot, &book, BOOK_BYTES))?;
     for side in [GAS, DENSE] {
         comparison.ask(Call::side(state, side))?;
-        comparison.ask(Call::side_with_book(state, side, slot, &book, BOOK))?;
+        comparison.ask(Call::side_with_book(state, side, slot, &book, BOOK_BYTES))?;
     }
     Ok(())
 }

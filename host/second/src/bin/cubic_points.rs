@@ -111,7 +111,7 @@ fn list() -> io::Result<()> {
 }
 
 /// Document 01's worked states; the SPLIT one first with no start, its roots, their upper neighbours
-/// and the largest number that a book can hold.
+/// and the largest number of 32 bits.
 fn worked_states(list: &mut List) {
     for start in [0, 1699, 1700, 92_696, 92_697, 4_294_967_295] {
         list.point(7984, 1106, start);

@@ -7,7 +7,7 @@
 //! at a book, keeps a book of its own, and writes the whole text anew: the two texts are equal exactly
 //! where all answers are.
 
-use second::state::{reply_with_book, Reply, BOOK};
+use second::state::{reply_with_book, Reply, BOOK_BYTES};
 use std::io::{self, BufWriter, Read, Write};
 use std::str::FromStr;
 
@@ -35,10 +35,10 @@ fn number_of<T: FromStr>(word: &str) -> T {
         .unwrap_or_else(|_| panic!("no number that fits: {word}"))
 }
 
-fn book_of(line: &str) -> [u32; BOOK] {
+fn book_of(line: &str) -> [u8; BOOK_BYTES] {
     let words = line.strip_prefix("book ").expect("the word book first");
-    let numbers: Vec<u32> = words.split(' ').map(number_of).collect();
-    numbers.try_into().expect("64 numbers in a book")
+    let bytes: Vec<u8> = words.split(' ').map(number_of).collect();
+    bytes.try_into().expect("192 bytes in a book")
 }
 
 fn question_of(line: &str) -> [u64; 4] {
@@ -46,10 +46,10 @@ fn question_of(line: &str) -> [u64; 4] {
     numbers.try_into().expect("four numbers in a question")
 }
 
-fn write_book(out: &mut impl Write, book: &[u32]) -> io::Result<()> {
+fn write_book(out: &mut impl Write, book: &[u8]) -> io::Result<()> {
     write!(out, "book")?;
-    for number in book {
-        write!(out, " {number}")?;
+    for byte in book {
+        write!(out, " {byte}")?;
     }
     writeln!(out)
 }

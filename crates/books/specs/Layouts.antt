@@ -1,0 +1,32 @@
+-- Document 01, "The book of starting points", of a book with slots 0 to 63, whatever a slot is made of.
+use mathlib.Core.Path.{_≡_}
+use mathlib.Core.Logic.{_⊎_}
+use mathlib.Core.List.{List, [], _∷_}
+use Prim.Native.Nat.{ℕ, _≤_, _<_}
+use lib.ListN.{length}
+use Rattle.refusals.specs.Checks.{Check, _if_, NoneOf}
+
+-- how many elements a book has, what a slot of it says, and the book with a number put into a slot
+pub record Layout : Type 0 where
+  pub elements : ℕ
+  pub says : (book : List ℕ) (slot : ℕ) → ℕ
+  pub put : (book : List ℕ) (slot number : ℕ) → List ℕ
+
+abbrev pub slotChecks : Layout → (slot length : ℕ) → List Check
+slotChecks layout slot length = 4 if ((length ≡ layout .elements → ⊥) ⊎ (63 < slot)) ∷ []
+
+abbrev pub Placed : Layout → (slot length : ℕ) → Type 0
+Placed layout slot length = NoneOf (slotChecks layout slot length)
+
+-- the same without the list
+abbrev pub HasSlot : Layout → (slot length : ℕ) → Type 0
+HasSlot layout slot length = (length ≡ layout .elements) × (slot ≤ 63)
+
+-- Of two books, however each is laid out: both are as long as their layout says, or neither is;
+pub record BothOrNeither (layout layout′ : Layout) (book other : List ℕ) : Type 0 where
+  pub forth : length book ≡ layout .elements → length other ≡ layout′ .elements
+  pub back : length other ≡ layout′ .elements → length book ≡ layout .elements
+
+-- and they say the same numbers.
+pub record SameNumbers (layout layout′ : Layout) (book other : List ℕ) : Type 0 where
+  pub slot-for-slot : (slot : ℕ) → slot ≤ 63 → layout .says book slot ≡ layout′ .says other slot
