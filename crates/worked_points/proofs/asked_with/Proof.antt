@@ -1,9 +1,9 @@
--- `worked::asked_with` is safe: the part that it lends is as long as it says. Assumes nothing.
+-- `worked_points::asked_with` is safe: the part that it lends is as long as it says. Assumes nothing.
 use mathlib.Core.Path.{sym}
 use lib.Seq.{length-take-le}
 use borrow.Author.Needs.{needs}
-use Rattle.worked.proofs.asked_with.Statement.{statement}
-use Rattle.worked.proofs.asked_with.Tie as tie
+use Rattle.worked_points.proofs.asked_with.Statement.{statement}
+use Rattle.worked_points.proofs.asked_with.Tie as tie
 
 array-borrow-prefix-book : tie.Need-array-borrow-prefix-book
 array-borrow-prefix-book c = search needs

@@ -1,10 +1,10 @@
--- `worked::say_book` ends and reads inside the book. The loop's invariant: its end is not past the book's. The measure is what is left.
+-- `worked_points::say_book` ends and reads inside the book. The loop's invariant: its end is not past the book's. The measure is what is left.
 -- Assumes nothing.
 use Prim.Native.Nat.{_-_, _≤_}
 use native.Mathlib.Omega.{arith}
 use lib.ListN.{length}
-use Rattle.worked.proofs.say_book.Statement.{statement}
-use Rattle.worked.proofs.say_book.Tie as tie
+use Rattle.worked_points.proofs.say_book.Statement.{statement}
+use Rattle.worked_points.proofs.say_book.Tie as tie
 
 abbrev Inv-loop : tie.InvT-loop
 Inv-loop book place₀ place-end place = place-end ≤ length book
