@@ -1,7 +1,5 @@
 -- Before document 02's C-19 the book was 64 numbers of 32 bits (document 01, "The book of starting points"). It stands here for the theorems that
 -- lay the book in bytes beside it (`state`). Assumes nothing.
-use mathlib.Core.List.{List}
-use Prim.Native.Nat.{ℕ}
 use native.Mathlib.Omega.{arith}
 use lib.ListN.{getD, set, length-set}
 use lib.Seq.{getD-set-same, getD-set-other}
