@@ -9,21 +9,18 @@ use lib.ListN as list
 use Rattle.refusals.specs.declared.Refusal.the-variants.{NoSuchSlot}
 use Rattle.refusals.specs.Checks.{FirstOf}
 use Rattle.refusals.proofs.Theorems.{EachDecided}
-use Rattle.books.specs.Layouts.{Layout, slotChecks, Placed, HasSlot, BothOrNeither}
+use Rattle.books.specs.Layouts.{Layout, lastSlot, NoSlot, slotChecks, Placed, HasSlot, BothOrNeither}
 
 module _ (layout : Layout) (slot length : ℕ) where
-  abbrev Missing : Type 0
-  Missing = (length ≡ layout .elements → ⊥) ⊎ (63 < slot)
-
-  there-or-missing : HasSlot layout slot length ⊎ Missing
-  there-or-missing = by-tests (ℕ-discrete length (layout .elements)) (decLe slot 63)
+  there-or-missing : HasSlot layout slot length ⊎ NoSlot layout slot length
+  there-or-missing = by-tests (ℕ-discrete length (layout .elements)) (decLe slot lastSlot)
     where
-      by-tests : Dec (length ≡ layout .elements) → Dec (slot ≤ 63) → HasSlot layout slot length ⊎ Missing
+      by-tests : Dec (length ≡ layout .elements) → Dec (slot ≤ lastSlot) → HasSlot layout slot length ⊎ NoSlot layout slot length
       by-tests (yes is-book) (yes up-to-last) = inl (is-book, up-to-last)
       by-tests (yes is-book) (no f) = inr (inr (lt-of-not-le f))
       by-tests (no f) slot-test = inr (inl f)
 
-  never-both : HasSlot layout slot length → Missing → ⊥
+  never-both : HasSlot layout slot length → NoSlot layout slot length → ⊥
   never-both there = ⊎-elim (λ other. other (there .0)) (λ past. not-le-of-lt past (there .1))
 
   pub placed : HasSlot layout slot length → Placed layout slot length

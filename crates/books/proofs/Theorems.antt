@@ -10,7 +10,7 @@ use native.Mathlib.Omega.{arith}
 use lib.ListN.{length, getD, set, length-set}
 use lib.Seq.{getD-set-same, getD-set-other, ext-getD}
 use Rattle.books.specs.Layouts.{HasSlot}
-use Rattle.books.specs.Bytes.{inBytes}
+use Rattle.books.specs.Bytes.{threeByteNumbers, inBytes}
 use Rattle.books.specs.Promise.{Starts, Leaves}
 use Rattle.books.proofs.Holding.{Holds}
 
@@ -47,7 +47,7 @@ module _ (book : List ℕ) (slot number : ℕ) where
     high = getD-set-same two (3 * slot + 2) _ 0 (simp length-set (omega arith))
 
     -- what is written reads back, for every number below 2^24
-    pub three-bytes-hold-a-root : number < 16777216 → inBytes .says three slot ≡ number
+    pub three-bytes-hold-a-root : number < threeByteNumbers → inBytes .says three slot ≡ number
     three-bytes-hold-a-root fits = omega (arith, low, middle, high)
 
     -- and no other book of bytes says it there and is the same elsewhere

@@ -4,6 +4,10 @@ use Prim.Native.Nat.{ℕ, _+_, _*_, _/_, _%_}
 use lib.ListN.{getD, set}
 use Rattle.books.specs.Layouts.{Layout}
 
+-- 2^24: three bytes say every number below it
+abbrev pub threeByteNumbers : ℕ
+threeByteNumbers = 16777216
+
 -- the number that the bytes of a slot say
 abbrev pub said : (book : List ℕ) (slot : ℕ) → ℕ
 said book slot = getD book (3 * slot) 0 + 256 * getD book (3 * slot + 1) 0 + 65536 * getD book (3 * slot + 2) 0

@@ -1,4 +1,4 @@
--- Document 01, "The book of starting points", of a book with slots 0 to 63, whatever a slot is made of.
+-- Document 01, "The book of starting points", whatever a slot is made of.
 use mathlib.Core.Path.{_≡_}
 use mathlib.Core.Logic.{_⊎_}
 use mathlib.Core.List.{List, [], _∷_}
@@ -12,15 +12,21 @@ pub record Layout : Type 0 where
   pub says : (book : List ℕ) (slot : ℕ) → ℕ
   pub put : (book : List ℕ) (slot number : ℕ) → List ℕ
 
+abbrev pub lastSlot : ℕ
+lastSlot = 63
+
+abbrev pub NoSlot : Layout → (slot length : ℕ) → Type 0
+NoSlot layout slot length = (length ≡ layout .elements → ⊥) ⊎ (lastSlot < slot)
+
 abbrev pub slotChecks : Layout → (slot length : ℕ) → List Check
-slotChecks layout slot length = 4 if ((length ≡ layout .elements → ⊥) ⊎ (63 < slot)) ∷ []
+slotChecks layout slot length = 4 if NoSlot layout slot length ∷ []
 
 abbrev pub Placed : Layout → (slot length : ℕ) → Type 0
 Placed layout slot length = NoneOf (slotChecks layout slot length)
 
 -- the same without the list
 abbrev pub HasSlot : Layout → (slot length : ℕ) → Type 0
-HasSlot layout slot length = (length ≡ layout .elements) × (slot ≤ 63)
+HasSlot layout slot length = (length ≡ layout .elements) × (slot ≤ lastSlot)
 
 -- Of two books, however each is laid out: both are as long as their layout says, or neither is;
 pub record BothOrNeither (layout layout′ : Layout) (book other : List ℕ) : Type 0 where
@@ -29,4 +35,4 @@ pub record BothOrNeither (layout layout′ : Layout) (book other : List ℕ) : T
 
 -- and they say the same numbers.
 pub record SameNumbers (layout layout′ : Layout) (book other : List ℕ) : Type 0 where
-  pub slot-for-slot : (slot : ℕ) → slot ≤ 63 → layout .says book slot ≡ layout′ .says other slot
+  pub slot-for-slot : (slot : ℕ) → slot ≤ lastSlot → layout .says book slot ≡ layout′ .says other slot

@@ -9,7 +9,7 @@ ghost use Rattle.books.specs.Bytes.{inBytes};
 ghost use Rattle.books.specs.Promise.{Starts, Leaves};
 
 // A book has 64 slots.
-const BOOK_BYTES: usize = 192;
+pub const BOOK_BYTES: usize = 192;
 
 const LAST_SLOT: u64 = 63;
 

@@ -8,6 +8,7 @@ use lib.ListN.{length}
 use Rattle.refusals.specs.Checks.{refuses, answers}
 use Rattle.refusals.proofs.Lists.{none-behind, tells-behind-same}
 use Rattle.books.specs.Layouts.{Layout, slotChecks, BothOrNeither, SameNumbers}
+use Rattle.books.specs.Bytes.{threeByteNumbers}
 use Rattle.books.proofs.Slots.{has-slot, alike-by-length, alike-after, has-slot-alike, placed-alike, first-alike}
 use Rattle.books.proofs.Holding.{Holds, same-numbers-put}
 use Rattle.fluid.specs.Checks.{stateChecks}
@@ -60,7 +61,7 @@ module _ {layout : Layout} {form : Form} {number millikelvin pascals slot : ℕ}
               let own = slotChecks layout slot (length book) in
               let there = has-slot layout slot (length book) (none-behind (stateChecks number millikelvin pascals ++ formChecks form) own none) in
               let weighable = weighty number millikelvin pascals (formChecks form ++ own) (answered .found) (none, answered .roots) .gas-fits in
-              let fits : answered .found .gas < 16777216 = omega (arith, weighable .root-fits) in
+              let fits : answered .found .gas < threeByteNumbers = omega (arith, weighable .root-fits) in
               let put = same-numbers-put holds holds′ same there (has-slot-alike alike slot there) fits in
               rw (written layout book slot (answered .kind) (answered .is-figures), written layout′ other slot (answered .kind) (answered .is-figures)) put
 

@@ -10,7 +10,7 @@ use lib.ListN.{length, replicate, length-replicate}
 use Rattle.refusals.specs.Checks.{NoneOf, refuses, answers}
 use Rattle.refusals.proofs.Lists.{none-or-first, tells-without, tells-without-between}
 use Rattle.books.specs.Layouts.{Layout, slotChecks, Placed, BothOrNeither, SameNumbers}
-use Rattle.books.specs.Bytes.{inBytes}
+use Rattle.books.specs.Bytes.{threeByteNumbers, inBytes}
 use Rattle.books.proofs.Slots.{alike-by-length}
 use Rattle.books.proofs.Theorems.{in-bytes-holds}
 use Rattle.books.proofs.Before.{inNumbers, in-numbers-holds}
@@ -79,8 +79,8 @@ module _ {fluid : Fluid} {millikelvin pascals : ℕ} {reduced : Reduced} {figure
   pub dense-is-smallest : (z : ℕ) → Crossing (reduced .a) (reduced .b) z → figures .«dense_root» ≤ z
   dense-is-smallest = dense-root-is-reported .smallest
 
-  -- each of them is below 2^24, so that three bytes hold it
-  pub every-root-fits : (z : ℕ) → Crossing (reduced .a) (reduced .b) z → z < 16777216
+  -- three bytes of a book hold each of them
+  pub every-root-fits : (z : ℕ) → Crossing (reduced .a) (reduced .b) z → z < threeByteNumbers
   every-root-fits z crossing = omega (arith, b-at-most accepted reduces, cubic.crossing-on-grid _ _ z crossing)
 
   -- and a side is told the root that it is named for

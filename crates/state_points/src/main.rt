@@ -9,14 +9,13 @@ use crate::tables::LARGEST;
 use crate::tables::MISLEADING;
 use crate::tables::PRESSURES;
 use crate::tables::TEMPERATURES;
+use books::BOOK_BYTES;
 use libc::STDOUT_FILENO;
 use state::Figures;
 ghost use mathlib.Core.Path.{_≡_};
 ghost use Prim.Native.Nat.{_*_, _<_};
 
 const SLOTS: u64 = 64;
-
-const BOOK_BYTES: usize = 192;
 
 fn wide(byte: u8) -> u64 {
     byte as u64

@@ -4,6 +4,7 @@ use mathlib.Core.Path.{refl, ap₂}
 use Prim.Native.Nat.{ℕ}
 use Rattle.refusals.specs.Checks.{NoneOf, answers}
 use Rattle.refusals.proofs.Lists.{none-both}
+use Rattle.books.specs.Layouts.{lastSlot}
 use Rattle.books.specs.Bytes.{inBytes}
 use Rattle.books.proofs.Slots as slots
 use Rattle.cubic.specs.Cubic.{Kind, ONE, SPLIT}
@@ -29,7 +30,7 @@ abbrev pub whole-root : (n root : ℕ) → Tested (SquareRoot n root)
 whole-root n root = by square-root with at-most _ _ with below _ _
 
 abbrev pub placed : (slot : ℕ) → Tested (NoneOf (inBook slot))
-placed slot = by (λ up-to-last. slots.placed inBytes slot 192 (refl, up-to-last)) with at-most slot 63
+placed slot = by (λ up-to-last. slots.placed inBytes slot 192 (refl, up-to-last)) with at-most slot lastSlot
 
 module _ (fluid : Fluid) (millikelvin pascals : ℕ) where
   abbrev pub accepted : Tested (Accepted fluid millikelvin pascals)

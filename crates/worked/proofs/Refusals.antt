@@ -4,6 +4,7 @@ use mathlib.Core.Logic.{inl, inr}
 use Prim.Native.Nat.{ℕ, _<_}
 use Rattle.refusals.specs.Checks.{FirstOf, refuses}
 use Rattle.refusals.proofs.Lists.{first-front, first-behind}
+use Rattle.books.specs.Layouts.{lastSlot}
 use Rattle.fluid.specs.declared.choice.Fluid.{Fluid}
 use Rattle.fluid.specs.declared.choice.Fluid.the-variants.{Hydrogen, Oxygen}
 use Rattle.fluid.specs.Figures.{numberOf, coldest, hottest, lowest, highest, Accepted}
@@ -41,7 +42,7 @@ module _ (number millikelvin refusal : ℕ) where
         or by (λ is-number from to is-32 out. too-high fluid is-number millikelvin pascals from to is-32 out)
         with equal number (numberOf fluid) with at-most (coldest fluid) millikelvin with at-most millikelvin hottest with equal refusal 32 with below highest pascals
 
-    pub past-slots : refusal ≡ 4 → number ≡ numberOf fluid → (pascals slot : ℕ) → Accepted fluid millikelvin pascals → 63 < slot → Replied number millikelvin pascals slot (refusedWith refusal)
+    pub past-slots : refusal ≡ 4 → number ≡ numberOf fluid → (pascals slot : ℕ) → Accepted fluid millikelvin pascals → lastSlot < slot → Replied number millikelvin pascals slot (refusedWith refusal)
     past-slots is-4 is-number pascals slot accepted past =
         refuses refusal
         (first-behind (stateChecks number millikelvin pascals) (inBook slot) refusal (passes fluid is-number millikelvin pascals accepted) (inl (inr past, is-4)))
@@ -50,7 +51,7 @@ module _ (number millikelvin refusal : ℕ) where
     abbrev pub slot-past : (pascals slot : ℕ) → Tested (Replied number millikelvin pascals slot (refusedWith refusal))
     slot-past pascals slot =
         by (λ is-4 is-number accepted past. past-slots is-4 is-number pascals slot accepted past)
-        with equal refusal 4 with equal number (numberOf fluid) with accepted fluid millikelvin pascals with below 63 slot
+        with equal refusal 4 with equal number (numberOf fluid) with accepted fluid millikelvin pascals with below lastSlot slot
 
   module _ (pressures slots : Span) where
     abbrev pub at-every-pressure : Tested ((pascals : ℕ) → FirstOf (stateChecks number millikelvin pascals) refusal) → Tested (RightRefusal number millikelvin pressures slots refusal)

@@ -289,6 +289,7 @@ mod tests {
     use super::*;
     use crate::cubic::{g, N};
     use crate::random::Random;
+    use std::fmt::Debug;
 
     fn one(root: u64, density: u64) -> Reply {
         Reply {
@@ -589,16 +590,7 @@ mod tests {
             let call = |slot, book: &mut [u8]| {
                 side_reply_with_book(OXYGEN, 120_000, 500_000, side, slot, book)
             };
-            for (slot, length) in NO_SLOTS {
-                let mut book = vec![7; length];
-                assert_eq!(call(slot, &mut book), side_refused(4));
-                assert_eq!(book, vec![7; length]);
-            }
-            for slot in 0..64 {
-                let mut book = [7; BOOK_BYTES];
-                assert_eq!(call(slot, &mut book), expected);
-                assert_eq!(book, sevens_but(slot, [0x18, 0x6A, 0x01]));
-            }
+            assert_slots(call, side_refused(4), expected, [0x18, 0x6A, 0x01]);
         }
     }
 
@@ -623,19 +615,30 @@ mod tests {
         book
     }
 
-    #[test]
-    fn slots_of_the_book() {
-        let call = |slot, book: &mut [u8]| reply_with_book(OXYGEN, 300_000, 1_000_000, slot, book);
+    /// That a call is refused where there is no slot, and answered at each slot, which then has these bytes;
+    /// no other byte is touched.
+    fn assert_slots<Told: Copy + Debug + PartialEq>(
+        call: impl Fn(u64, &mut [u8]) -> Told,
+        refused: Told,
+        answered: Told,
+        bytes: [u8; SLOT_BYTES],
+    ) {
         for (slot, length) in NO_SLOTS {
             let mut book = vec![7; length];
-            assert_eq!(call(slot, &mut book), refused(4));
+            assert_eq!(call(slot, &mut book), refused);
             assert_eq!(book, vec![7; length]);
         }
         for slot in 0..64 {
             let mut book = [7; BOOK_BYTES];
-            assert_eq!(call(slot, &mut book), one(99_286, 12_920));
-            assert_eq!(book, sevens_but(slot, [0xD6, 0x83, 0x01]));
+            assert_eq!(call(slot, &mut book), answered);
+            assert_eq!(book, sevens_but(slot, bytes));
         }
+    }
+
+    #[test]
+    fn slots_of_the_book() {
+        let call = |slot, book: &mut [u8]| reply_with_book(OXYGEN, 300_000, 1_000_000, slot, book);
+        assert_slots(call, refused(4), one(99_286, 12_920), [0xD6, 0x83, 0x01]);
     }
 
     /// No root is above N + b, and b is greatest at the lowest temperature and the highest pressure.
