@@ -1,4 +1,4 @@
-/* Woolyard: compressibility roots and densities of parahydrogen and oxygen, hydrogen's ideal heat capacity, and state sheets.
+/* Woolyard: compressibility roots and densities of parahydrogen, oxygen and nitrogen, hydrogen's ideal heat capacity, and state sheets.
  *
  * Every function answers every input with a number: 0 for an answer, another for a refusal, named below. The caller checks nothing first.
  * Each is proved to answer what document 01 (rules and scope of the build) defines, as later requests amend it, and to write nothing but what is
@@ -21,21 +21,22 @@ extern "C" {
 
 /* The numbers of the replies. */
 #define WOOLYARD_ANSWERED 0
-#define WOOLYARD_NO_SUCH_FLUID 1          /* fluid is neither 0 nor 1 */
+#define WOOLYARD_NO_SUCH_FLUID 1          /* fluid is above 2 */
 #define WOOLYARD_NO_SUCH_SLOT 4           /* book not of 192 bytes, or slot above 63 */
 #define WOOLYARD_HEAT_OUT_OF_RANGE 5      /* heat-capacity temperature not a number in 14 to 1000 K */
 #define WOOLYARD_SHEET_MALFORMED 6        /* sheet badly formed */
 #define WOOLYARD_SHEET_TOO_LONG 7         /* sheet longer than 65,536 bytes */
 #define WOOLYARD_NO_SUCH_SIDE 12          /* side is neither 0 nor 1 */
 #define WOOLYARD_NO_SUCH_LINE 16          /* no state line of the number asked for */
-#define WOOLYARD_TEMPERATURE_TOO_LOW 21   /* below 14,000 mK for parahydrogen, below 56,000 mK for oxygen */
-#define WOOLYARD_TEMPERATURE_TOO_HIGH 22  /* above 1,000,000 mK for either */
-#define WOOLYARD_PRESSURE_TOO_LOW 31      /* below 10,000 Pa for either */
-#define WOOLYARD_PRESSURE_TOO_HIGH 32     /* above 50,000,000 Pa for either */
+#define WOOLYARD_TEMPERATURE_TOO_LOW 21   /* below 14,000 mK for parahydrogen, 56,000 mK for oxygen, 64,000 mK for nitrogen */
+#define WOOLYARD_TEMPERATURE_TOO_HIGH 22  /* above 1,000,000 mK for every fluid */
+#define WOOLYARD_PRESSURE_TOO_LOW 31      /* below 10,000 Pa for every fluid */
+#define WOOLYARD_PRESSURE_TOO_HIGH 32     /* above 50,000,000 Pa for every fluid */
 
 /* The fluids. */
 #define WOOLYARD_PARAHYDROGEN 0
 #define WOOLYARD_OXYGEN 1
+#define WOOLYARD_NITROGEN 2
 
 /* The sides of a state. */
 #define WOOLYARD_GAS 0
@@ -88,12 +89,12 @@ uint64_t woolyard_side_with_book(uint64_t fluid, uint64_t millikelvin, uint64_t 
 uint64_t woolyard_heat(double kelvin, double *heat);
 
 /* Reads a whole sheet. Answers 0, 6 or 7; 7 comes before 6.
- *   reading[0]  the number of state lines, the sum of the two counts; 0 for a refused sheet
+ *   reading[0]  the number of state lines, the sum of the three counts; 0 for a refused sheet
  *   reading[1]  6: the place, which is the first byte of the first line that can't stand there; otherwise 0
  *   reading[2]  6: the length of the faulty line, which is sheet[place] and on, without byte 10; 0 if the line is missing; otherwise 0 */
 uint64_t woolyard_sheet(const uint8_t *sheet, size_t length, uint64_t reading[3]);
 
-/* State line k of a sheet, counted from 0 through both sections: its fluid, temperature in millikelvin and pressure in pascals as written,
+/* State line k of a sheet, counted from 0 through all sections: its fluid, temperature in millikelvin and pressure in pascals as written,
  * in range or not; zeros where refused. Answers 0, 6, 7 or 16: 7 comes before 6, and 6 before 16, which is given exactly when the sheet is
  * good and k is not below the number of state lines. */
 uint64_t woolyard_sheet_line(const uint8_t *sheet, size_t length, uint64_t k, uint64_t state[3]);

@@ -9,11 +9,20 @@
 #include "woolyard.h"
 
 /* Document 01, "Replies". */
-#define COLDEST_HYDROGEN 14000
-#define COLDEST_OXYGEN 56000
 #define WARMEST 1000000
 #define LOWEST_PASCALS 10000
 #define HIGHEST_PASCALS 50000000
+
+/* Of each fluid, by its number: documents 01 and 02, temperatures in millikelvin. Hydrogen's critical constants depend on the temperature
+ * and are worked out in the call. */
+static const struct {
+    uint64_t coldest;
+    double critical_temperature, critical_pressure, molar_mass;
+} fluids[] = {
+    [WOOLYARD_PARAHYDROGEN] = {14000, 0, 0, 2.01594},
+    [WOOLYARD_OXYGEN] = {56000, 154576, 5042000, 31.9988},
+    [WOOLYARD_NITROGEN] = {64000, 126192, 3395800, 28.0134},
+};
 
 static uint64_t refused(uint64_t number, double figures[5]) {
     for (int place = 0; place < 5; place++)
@@ -39,10 +48,9 @@ double peer_gas_root(double a, double b) { return roots(a, b).gas; }
 
 /* The figures lie as those of woolyard_state do; the roots are compressibilities. */
 uint64_t peer_state(uint64_t fluid, uint64_t millikelvin, uint64_t pascals, double figures[5]) {
-    if (fluid > WOOLYARD_OXYGEN)
+    if (fluid > WOOLYARD_NITROGEN)
         return refused(WOOLYARD_NO_SUCH_FLUID, figures);
-    uint64_t coldest = fluid == WOOLYARD_OXYGEN ? COLDEST_OXYGEN : COLDEST_HYDROGEN;
-    if (millikelvin < coldest)
+    if (millikelvin < fluids[fluid].coldest)
         return refused(WOOLYARD_TEMPERATURE_TOO_LOW, figures);
     if (millikelvin > WARMEST)
         return refused(WOOLYARD_TEMPERATURE_TOO_HIGH, figures);
@@ -52,22 +60,17 @@ uint64_t peer_state(uint64_t fluid, uint64_t millikelvin, uint64_t pascals, doub
         return refused(WOOLYARD_PRESSURE_TOO_HIGH, figures);
 
     double temperature = (int64_t)millikelvin, pressure = (int64_t)pascals;
-    double critical_temperature, critical_pressure, molar_mass;
-    if (fluid == WOOLYARD_OXYGEN) {
-        critical_temperature = 154576;
-        critical_pressure = 5042000;
-        molar_mass = 31.9988;
-    } else {
+    double critical_temperature = fluids[fluid].critical_temperature, critical_pressure = fluids[fluid].critical_pressure;
+    if (fluid == WOOLYARD_PARAHYDROGEN) {
         double m = 201594 * temperature;
         critical_temperature = 43600 * m / (m + 2180000000.0);
         critical_pressure = 2046765 * m / (m + 4420000000.0);
-        molar_mass = 2.01594;
     }
     double t = temperature / critical_temperature, p = pressure / critical_pressure;
     struct roots root = roots(0.42748 * p / (t * t * sqrt(t)), 0.08664 * p / t);
 
     /* At compressibility 1, from millikelvin to grams. */
-    double ideal_density = molar_mass * (1e6 / 8314.462618) * pressure / temperature;
+    double ideal_density = fluids[fluid].molar_mass * (1e6 / 8314.462618) * pressure / temperature;
     figures[WOOLYARD_KIND] = root.gas == root.dense ? WOOLYARD_KIND_ONE : WOOLYARD_KIND_SPLIT;
     figures[WOOLYARD_GAS_ROOT] = root.gas;
     figures[WOOLYARD_DENSE_ROOT] = root.dense;

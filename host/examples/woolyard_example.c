@@ -1,5 +1,5 @@
-/* The header in use: a state, one side of it, the state with a book, refusals, the heat capacity, a sheet and its lines, and a faulty
- * sheet. */
+/* The header in use: a state, one side of it, the state with a book, another fluid, refusals, the heat capacity, a sheet and its lines, and
+ * a faulty sheet. */
 #include "woolyard.h"
 #include <inttypes.h>
 #include <stdio.h>
@@ -37,6 +37,10 @@ int main(void)
     const uint8_t *slot = book + 3 * 5;
     printf("with a book: reply %" PRIu64 ", and slot 5 holds %d\n", number, slot[0] + 256 * slot[1] + 65536 * slot[2]);
 
+    number = woolyard_side(WOOLYARD_NITROGEN, 300000, 1000000, WOOLYARD_GAS, side_figures);
+    printf("nitrogen at 300000 mK and 1000000 Pa: reply %" PRIu64 ", root %" PRIu64 ", %" PRIu64 " g/m3\n", number,
+           side_figures[WOOLYARD_ROOT], side_figures[WOOLYARD_DENSITY]);
+
     number = woolyard_state(WOOLYARD_OXYGEN, 55999, 500000, figures);
     printf("oxygen at 55999 mK: reply %" PRIu64 "\n", number);
 
@@ -44,7 +48,8 @@ int main(void)
     if (woolyard_heat(300, &heat) == WOOLYARD_ANSWERED)
         printf("hydrogen at 300 K: %.6f kJ/(kg K)\n", heat);
 
-    static const char good[] = "1\n300000 1000000\n2\n120000 500000\n55999 500000\n", faulty[] = "0\n1\n120000\n";
+    static const char good[] = "1\n300000 1000000\n2\n120000 500000\n55999 500000\n1\n90000 300000\n";
+    static const char faulty[] = "0\n1\n120000\n0\n";
     print_sheet(good, sizeof good - 1);
     print_sheet(faulty, sizeof faulty - 1);
     return 0;

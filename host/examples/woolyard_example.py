@@ -8,7 +8,7 @@ import sys
 from ctypes import byref, c_double, c_size_t, c_uint8, c_uint64
 
 ANSWERED, SHEET_MALFORMED = 0, 6
-OXYGEN, DENSE, KIND_SPLIT, BOOK_BYTES = 1, 1, 2, 192
+OXYGEN, NITROGEN, GAS, DENSE, KIND_SPLIT, BOOK_BYTES = 1, 2, 0, 1, 2, 192
 
 woolyard = ctypes.CDLL(sys.argv[1])
 Figures, SideFigures, Three, Book = c_uint64 * 5, c_uint64 * 2, c_uint64 * 3, c_uint8 * BOOK_BYTES
@@ -54,6 +54,10 @@ book = Book()
 number = woolyard.woolyard_state_with_book(OXYGEN, 120000, 500000, 5, book, BOOK_BYTES, figures)
 print(f"with a book: reply {number}, and slot 5 holds {int.from_bytes(book[15:18], 'little')}")
 
+number = woolyard.woolyard_side(NITROGEN, 300000, 1000000, GAS, side_figures)
+root, density = side_figures
+print(f"nitrogen at 300000 mK and 1000000 Pa: reply {number}, root {root}, {density} g/m3")
+
 number = woolyard.woolyard_state(OXYGEN, 55999, 500000, figures)
 print(f"oxygen at 55999 mK: reply {number}")
 
@@ -61,5 +65,5 @@ heat = c_double()
 if woolyard.woolyard_heat(300, byref(heat)) == ANSWERED:
     print(f"hydrogen at 300 K: {heat.value:.6f} kJ/(kg K)")
 
-print_sheet(b"1\n300000 1000000\n2\n120000 500000\n55999 500000\n")
-print_sheet(b"0\n1\n120000\n")
+print_sheet(b"1\n300000 1000000\n2\n120000 500000\n55999 500000\n1\n90000 300000\n")
+print_sheet(b"0\n1\n120000\n0\n")

@@ -8,7 +8,8 @@ use Rattle.fluid.specs.declared.choice.Fluid.{Fluid}
 use Rattle.fluid.specs.Figures.{hottest, highest}
 use Rattle.densities.specs.Densities.{gasConstant, factorOfMolarMass, densityFactor}
 use Rattle.densities.specs.Promise.{largestRoot, Weighable}
-use Rattle.fluid.proofs.Theorems.{heaviest, molar-mass-at-most}
+use Rattle.fluid.proofs.Fluids.{heaviest}
+use Rattle.fluid.proofs.Theorems.{molar-mass-at-most}
 use Rattle.numbers.proofs.Quotients.{quotient-rises, in-parts}
 
 -- above every fluid's

@@ -2,37 +2,28 @@
 use mathlib.Core.Path.{_≡_, refl, sym, subst, _∙_}
 use mathlib.Core.Logic.{_⊎_, inl, inr}
 use mathlib.Core.List.{_++_}
-use Prim.Native.Nat.{ℕ, zero, suc, _≤_, _<_}
+use Prim.Native.Nat.{ℕ, _≤_, _<_}
 use native.Mathlib.Omega.{arith}
-use native.Mathlib.Decide.{decLt}
+use native.Mathlib.Decide.{decLe, decLt}
 use Rattle.refusals.specs.declared.Refusal.the-variants.{NoSuchFluid, TemperatureTooLow, TemperatureTooHigh, PressureTooLow, PressureTooHigh}
 use Rattle.refusals.proofs.Lists.{none-both, first-front, first-behind}
 use Rattle.refusals.proofs.Theorems.{EachDecided}
 use Rattle.refusals.specs.Checks.{NoneOf, FirstOf}
 use Rattle.fluid.specs.declared.choice.Fluid.{Fluid}
-use Rattle.fluid.specs.declared.choice.Fluid.the-variants.{Hydrogen, Oxygen}
 use Rattle.fluid.specs.Figures.{numberOf, coldest, hottest, lowest, highest, Accepted}
 use Rattle.fluid.specs.Checks.{OfFluid, fluidChecks, temperatureChecks, pressureChecks, rangeChecks, stateChecks}
-use Rattle.fluid.proofs.Fluids.{number-determines-fluid}
+use Rattle.fluid.proofs.Fluids.{lastNumber, fits, fluidOf, number-of-fluid, number-determines-fluid, no-fluid}
 
 -- what holds of the fluid of a number holds of any fluid of that number
 pub of-fluid : {number : ℕ} {Holds : Fluid → Type 0} (fluid : Fluid) → number ≡ numberOf fluid → OfFluid number Holds → Holds fluid
 of-fluid {Holds = Holds} fluid is-number given =
     subst Holds (number-determines-fluid (given .fluid) fluid (sym (given .is-number) ∙ is-number)) (given .holds)
 
-pub no-fluid : {number : ℕ} → (number ≡ numberOf Hydrogen → ⊥) → (number ≡ numberOf Oxygen → ⊥) → (fluid : Fluid) → number ≡ numberOf fluid → ⊥
-no-fluid hydrogen oxygen Hydrogen = hydrogen
-no-fluid hydrogen oxygen Oxygen = oxygen
-
 pub is-fluid : {number : ℕ} (fluid : Fluid) → number ≡ numberOf fluid → NoneOf (fluidChecks number)
 is-fluid fluid is-number = (λ none. none fluid is-number, tt)
 
 pub unknown-fluid : (number millikelvin pascals : ℕ) {refusal : ℕ} → refusal ≡ 1 → ((fluid : Fluid) → number ≡ numberOf fluid → ⊥) → FirstOf (stateChecks number millikelvin pascals) refusal
 unknown-fluid number millikelvin pascals is-1 none = inl (none, is-1)
-
-coldest-below-hottest : (fluid : Fluid) → coldest fluid < hottest
-coldest-below-hottest Hydrogen = omega arith
-coldest-below-hottest Oxygen = omega arith
 
 module _ {number : ℕ} (fluid : Fluid) (is-number : number ≡ numberOf fluid) (millikelvin pascals : ℕ) where
   not-cold : coldest fluid ≤ millikelvin → OfFluid number (λ other. millikelvin < coldest other) → ⊥
@@ -47,7 +38,7 @@ module _ {number : ℕ} (fluid : Fluid) (is-number : number ≡ numberOf fluid) 
   too-cold is-21 out = by-temperature (inl (record { fluid = fluid; is-number = is-number; holds = out }, is-21))
 
   pub too-hot : {refusal : ℕ} → refusal ≡ 22 → hottest < millikelvin → FirstOf (stateChecks number millikelvin pascals) refusal
-  too-hot is-22 out = by-temperature (inr (not-cold (omega (arith, coldest-below-hottest fluid)), inl (out, is-22)))
+  too-hot is-22 out = by-temperature (inr (not-cold (omega (arith, fits fluid .some-range)), inl (out, is-22)))
 
   module _ (from : coldest fluid ≤ millikelvin) (to : millikelvin ≤ hottest) where
     good-temperature : NoneOf (fluidChecks number ++ temperatureChecks number millikelvin)
@@ -78,9 +69,11 @@ module _ {number : ℕ} (fluid : Fluid) (is-number : number ≡ numberOf fluid) 
 
 -- each check can be decided
 pub fluid-or-none : (number : ℕ) → ((fluid : Fluid) × (number ≡ numberOf fluid)) ⊎ ((fluid : Fluid) → number ≡ numberOf fluid → ⊥)
-fluid-or-none zero = inl (Hydrogen, refl)
-fluid-or-none (suc zero) = inl (Oxygen, refl)
-fluid-or-none (suc (suc number)) = inr (no-fluid (λ same. omega arith) (λ same. omega arith))
+fluid-or-none number = up-to-last (decLe number lastNumber)
+  where
+    up-to-last : Dec (number ≤ lastNumber) → ((fluid : Fluid) × (number ≡ numberOf fluid)) ⊎ ((fluid : Fluid) → number ≡ numberOf fluid → ⊥)
+    up-to-last (yes few) = inl (fluidOf number, number-of-fluid number few)
+    up-to-last (no above) = inr (no-fluid (omega arith))
 
 pub state-decided : (number millikelvin pascals : ℕ) → EachDecided (stateChecks number millikelvin pascals)
 state-decided number millikelvin pascals =

@@ -4,7 +4,7 @@ use Prim.Native.Nat.{ℕ, _+_, _*_, _/_, _≤_, _<_}
 use native.Mathlib.Nat.{le-trans, mul-le-mul, mul-le-mul-left, mul-pos, div-mul-le-self, div-le-of-le-mul}
 use native.Mathlib.Omega.{arith}
 use Rattle.fluid.specs.declared.choice.Fluid.{Fluid}
-use Rattle.fluid.specs.declared.choice.Fluid.the-variants.{Hydrogen, Oxygen}
+use Rattle.fluid.specs.declared.choice.Fluid.the-variants.{Hydrogen, Oxygen, Nitrogen}
 use Rattle.fluid.specs.Figures.{lowered, criticalMillikelvin, criticalPascals, coldest, hottest, lowest, highest, Accepted}
 use Rattle.squares.specs.SquareRoot.{SquareRoot}
 use Rattle.numbers.proofs.Quotients.{quotient-from, quotient-grows}
@@ -74,6 +74,8 @@ spanned Hydrogen millikelvin pascals accepted =
     record { least-t = 5600; least-s = 7483; greatest-p = 62800000; ends = omega arith; spans = hydrogen-spans millikelvin pascals accepted }
 spanned Oxygen millikelvin pascals accepted =
     record { least-t = 3600; least-s = 6000; greatest-p = 10000000; ends = omega arith; spans = omega arith }
+spanned Nitrogen millikelvin pascals accepted =
+    record { least-t = 5000; least-s = 7000; greatest-p = 15000000; ends = omega arith; spans = omega arith }
 
 -- What follows for every fluid alike.
 pub record Bounds (t p s : ℕ) : Type 0 where

@@ -1,40 +1,40 @@
--- What is proved of the definitions of `specs/`, beside what each call promises: the bounds of a and b over every accepted state and of
--- the molar masses, and that each promise fixes its answer. Assumes nothing.
+-- What is proved of the definitions of `specs/`, beside what each call promises: which numbers are fluids', the bounds of a and b over every
+-- accepted state and of the molar masses, and that each promise fixes its answer. Assumes nothing.
 use mathlib.Core.Path.{_≡_, refl, sym, ap, ap₂, _∙_}
 use Prim.Native.Nat.{ℕ, _*_, _/_, _≤_, _<_}
 use native.Mathlib.Omega.{arith}
 use Rattle.fluid.specs.declared.choice.Fluid.{Fluid}
-use Rattle.fluid.specs.declared.choice.Fluid.the-variants.{Hydrogen, Oxygen}
 use Rattle.fluid.specs.declared.choice.Numbered.{Numbered}
 use Rattle.fluid.specs.declared.choice.Numbered.the-variants as Numbered
 use Rattle.fluid.specs.declared.coefficients.Reduced.{Reduced}
 use Rattle.fluid.specs.declared.coefficients.Reduction.{Reduction}
 use Rattle.fluid.specs.declared.coefficients.Reduction.the-variants as Reduction
-use Rattle.fluid.specs.Figures.{molarMass, criticalMillikelvin, Accepted}
+use Rattle.fluid.specs.Figures.{numberOf, molarMass, criticalMillikelvin, Accepted}
 use Rattle.squares.proofs.Theorems.{square-root-determined, square-root-exists}
 use Rattle.fluid.specs.Reduced.{Reduces}
 use Rattle.fluid.specs.Checks.{fluidChecks, stateChecks}
 use Rattle.fluid.specs.Promise.{numbered, Numbers, Reached, reduction, Reaches, ReducesTo}
 use Rattle.refusals.specs.Checks.{Outcome, with-value, with-number}
 use Rattle.refusals.proofs.Theorems.{gives-once, refusalOf, refusal-of-number}
-use Rattle.fluid.proofs.Fluids.{number-determines-fluid}
+use Rattle.fluid.proofs.Fluids.{heaviest, fits, fluidOf, number-of-fluid, number-determines-fluid, no-fluid}
 use Rattle.fluid.proofs.Ranges.{Bounds, spanned, bounds}
 
--- a round bound, for whoever works with molar masses in 64 bits
-abbrev pub heaviest : ℕ
-heaviest = 4000000
+-- a number is a fluid's exactly up to 2, and 1 is told of any other (document 02, C-20)
+pub fluid-up-to-two : (number : ℕ) → number ≤ 2 → (fluid : Fluid) × (number ≡ numberOf fluid)
+fluid-up-to-two number few = (fluidOf number, number-of-fluid number few)
+
+pub no-fluid-above-two : (number : ℕ) → 2 < number → (fluid : Fluid) → number ≡ numberOf fluid → ⊥
+no-fluid-above-two number = no-fluid
 
 pub molar-mass-at-most : (fluid : Fluid) → molarMass fluid ≤ heaviest
-molar-mass-at-most Hydrogen = omega arith
-molar-mass-at-most Oxygen = omega arith
+molar-mass-at-most fluid = fits fluid .mass-fits
 
 -- two answers that keep what `molar_mass` promises are equal
 pub molar-mass-determined : (fluid : Fluid) {r s : ℕ} → r ≡ molarMass fluid → s ≡ molarMass fluid → r ≡ s
 molar-mass-determined fluid p q = p ∙ sym q
 
 pub some-temperature : {fluid : Fluid} {millikelvin pascals : ℕ} → Accepted fluid millikelvin pascals → 0 < millikelvin
-some-temperature {fluid = Hydrogen} accepted = omega arith
-some-temperature {fluid = Oxygen} accepted = omega arith
+some-temperature {fluid} accepted = omega (arith, fits fluid .some-temperature)
 
 module _ {fluid : Fluid} {millikelvin pascals : ℕ} {reduced : Reduced} (accepted : Accepted fluid millikelvin pascals) (reduces : Reduces fluid millikelvin pascals reduced) where
   within : Bounds (reduced .t) (reduced .p) (reduced .s)

@@ -1,17 +1,19 @@
-// The choice of a fluid. A further fluid is a further type beside Hydrogen and Oxygen, and a further
-// case in this file.
+// The choice of a fluid. One whose critical constants are the same at every temperature is a type with
+// constants, and a further case in this file.
 ghost use mathlib.Core.Path.{_≡_};
 ghost use Prim.Native.Nat.{_≤_};
 ghost use Rattle.fluid.specs.Figures.{molarMass, hottest};
 ghost use Rattle.fluid.specs.Inside.{figuresOf};
 ghost use Rattle.fluid.specs.Promise.{numbered, Numbers};
 use crate::hydrogen::Hydrogen;
+use crate::nitrogen::Nitrogen;
 use crate::oxygen::Oxygen;
 use refusals::Refusal;
 
 pub enum Fluid {
     Hydrogen,
     Oxygen,
+    Nitrogen,
 }
 
 pub enum Numbered {
@@ -36,6 +38,9 @@ pub fn of_number(number: u64) -> Numbered
     if number == 1 {
         return Numbered::Fluid(Fluid::Oxygen);
     }
+    if number == 2 {
+        return Numbered::Fluid(Fluid::Nitrogen);
+    }
     Numbered::Refused(Refusal::NoSuchFluid)
 }
 
@@ -45,7 +50,8 @@ pub(crate) fn figures_at(fluid: Fluid, millikelvin: u64) -> Figures
 {
     match fluid {
         Fluid::Hydrogen => Hydrogen::figures_at(millikelvin),
-        Fluid::Oxygen => Oxygen::figures(),
+        Fluid::Oxygen => Oxygen::FIGURES,
+        Fluid::Nitrogen => Nitrogen::FIGURES,
     }
 }
 
@@ -56,5 +62,6 @@ pub fn molar_mass(fluid: Fluid) -> u64
     match fluid {
         Fluid::Hydrogen => Hydrogen::MOLAR_MASS,
         Fluid::Oxygen => Oxygen::MOLAR_MASS,
+        Fluid::Nitrogen => Nitrogen::MOLAR_MASS,
     }
 }

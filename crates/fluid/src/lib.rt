@@ -3,6 +3,7 @@
 mod choice;
 mod coefficients;
 pub mod hydrogen;
+pub mod nitrogen;
 pub mod oxygen;
 
 pub use choice::Fluid;

@@ -1,9 +1,5 @@
 // Oxygen: its constants (document 01, "Constants that belong to each fluid"; TM-564, Table 1).
-ghost use mathlib.Core.Path.{_≡_};
-ghost use Prim.Native.Nat.{ℕ};
-ghost use Rattle.fluid.specs.Inside.{figuresOf};
 use crate::choice::Figures;
-use crate::choice::Fluid;
 
 pub struct Oxygen {}
 
@@ -17,13 +13,9 @@ impl Oxygen {
 
     pub const CRITICAL_PASCALS: u64 = 5_042_000;
 
-    pub(crate) fn figures() -> Figures
-        ensures { λ r. ⌜ ((millikelvin : ℕ) → r ≡ figuresOf Fluid.Oxygen millikelvin) ⌝ }
-    {
-        Figures {
-            coldest_millikelvin: Self::COLDEST_MILLIKELVIN,
-            critical_millikelvin: Self::CRITICAL_MILLIKELVIN,
-            critical_pascals: Self::CRITICAL_PASCALS,
-        }
-    }
+    pub(crate) const FIGURES: Figures = Figures {
+        coldest_millikelvin: Self::COLDEST_MILLIKELVIN,
+        critical_millikelvin: Self::CRITICAL_MILLIKELVIN,
+        critical_pascals: Self::CRITICAL_PASCALS,
+    };
 }

@@ -1,6 +1,7 @@
 // One line of a sheet (document 01, "State sheets"), read where a cursor stands.
 ghost use mathlib.Core.Path.{_≡_};
 ghost use Prim.Native.Nat.{_-_};
+ghost use Rattle.sheets.specs.Grammar.{allSections};
 ghost use Rattle.sheets.specs.Lines.{counted, stated, ended, unended, met};
 use digests::scan;
 use sheets::Cursor;
@@ -10,13 +11,13 @@ use sheets::Next;
 use sheets::State;
 
 // How many sections a sheet has: one a fluid, in the order of their numbers.
-pub const SECTIONS: u64 = 2;
+pub const SECTIONS: u64 = 3;
 
 pub const MOST_STATES: u64 = 1_000;
 
 // A line that is one number stands where a section may begin.
 fn count_line(cursor: Cursor, next: usize, count: u64) -> Line
-    ensures { λ r. ⌜ r ≡ counted cursor next count ⌝ }
+    ensures { λ r. ⌜ r ≡ counted allSections cursor next count ⌝ }
 {
     let begun = cursor.begun;
     let left = cursor.left;
@@ -73,7 +74,7 @@ fn state_line(cursor: Cursor, next: usize, millikelvin: u64, pascals: u64) -> Li
 }
 
 fn ended_line(cursor: Cursor, next: usize, digest: Digest) -> Line
-    ensures { λ r. ⌜ r ≡ ended cursor next digest ⌝ }
+    ensures { λ r. ⌜ r ≡ ended allSections cursor next digest ⌝ }
 {
     let place = cursor.place;
     match digest {
@@ -87,7 +88,7 @@ fn ended_line(cursor: Cursor, next: usize, digest: Digest) -> Line
 
 // Where there is no line's end any more, the sheet is over or a line lacks its end, or is missing.
 fn unended_line(cursor: Cursor, end: usize) -> Line
-    ensures { λ r. ⌜ r ≡ unended cursor end ⌝ }
+    ensures { λ r. ⌜ r ≡ unended allSections cursor end ⌝ }
 {
     let begun = cursor.begun;
     let left = cursor.left;
@@ -106,7 +107,7 @@ fn unended_line(cursor: Cursor, end: usize) -> Line
 
 // What begins where the cursor stands.
 pub fn line_at(sheet: &[u8], cursor: Cursor) -> Line
-    ensures { λ r. ⌜ r ≡ met (now (sheet .entry)) cursor ⌝ }
+    ensures { λ r. ⌜ r ≡ met allSections (now (sheet .entry)) cursor ⌝ }
 {
     let line = scan(sheet, cursor.place, Digest::Empty);
     let digest = line.digest;

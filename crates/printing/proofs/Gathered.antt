@@ -13,9 +13,9 @@ use Rattle.sheets.specs.declared.Next.{Next}
 use Rattle.sheets.specs.declared.Next.the-variants as Next
 use Rattle.readings.specs.declared.Reading.{Reading}
 use Rattle.readings.specs.declared.Reading.the-variants.{StateLines, Malformed, TooLong}
-use Rattle.sheets.specs.Grammar.{sumOfCounts}
+use Rattle.sheets.specs.Grammar.{allSections, sumOfCounts}
 use Rattle.sheets.specs.Reading.{start, Comes}
-use Rattle.readings.specs.Replies as replies
+use Rattle.readings.specs.Readers as readers
 use Rattle.readings.proofs.Answers.{good-passes, long-told, fault-told}
 use Rattle.readings.proofs.Nexts.{NextIn}
 use Rattle.sheets.proofs.Passed.{Passed, none-passed, one-passed, all-passed}
@@ -38,7 +38,7 @@ lines-on (first ∷ states) state text line lines is-line = (
 
 pub record Gathered (bytes before : List ℕ) (cursor : Cursor) (buffer : List ℕ) (end : ℕ) : Type 0 where
   pub states : List State
-  pub passed : Passed bytes cursor states
+  pub passed : Passed allSections bytes cursor states
   pub are-lines : LinesText states (take end buffer)
   pub short : end ≤ longestLine * length states
   pub same-length : length buffer ≡ length before
@@ -56,8 +56,8 @@ module _ {bytes before : List ℕ} {cursor : Cursor} {buffer : List ℕ} {end : 
       let room = gathered .passed .room in
       omega (arith, gathered .short, gathered .same-length, room .states, room .begun)
 
-  module _ {state : State} {after : Cursor} (comes : Comes bytes cursor (Next.State state after)) where
-    on : Passed bytes after (gathered .states ++ (state ∷ []))
+  module _ {state : State} {after : Cursor} (comes : Comes allSections bytes cursor (Next.State state after)) where
+    on : Passed allSections bytes after (gathered .states ++ (state ∷ []))
     on = one-passed bytes (gathered .states) state after (gathered .passed) comes
 
     -- the line that comes has room
@@ -78,7 +78,7 @@ module _ {bytes before : List ℕ} {cursor : Cursor} {buffer : List ℕ} {end : 
           same-length = puts .same-length ∙ gathered .same-length;
         }
 
-  pub prints-all : NextIn bytes cursor Next.Over → Counts end buffer × Prints bytes (take end buffer)
+  pub prints-all : NextIn allSections bytes cursor Next.Over → Counts end buffer × Prints bytes (take end buffer)
   prints-all next =
       let written = read-good bytes (gathered .states) (all-passed bytes (gathered .states) Next.Over (gathered .passed) (next .comes)) in (
         counts buffer end within,
@@ -100,7 +100,7 @@ module _ {bytes before : List ℕ} {cursor : Cursor} {buffer : List ℕ} {end : 
     alone reading puts =
         (counts later next (omega (arith, puts .short, puts .reaches, puts .same-length, gathered .same-length)), subst (FaultText reading) (sym (puts .stands)) (puts .is-text))
 
-    pub prints-fault : (place : ℕ) → NextIn bytes cursor (Next.Malformed place) → Puts (FaultText (Malformed place)) longestLine buffer 0 later next → Counts next later × Prints bytes (take next later)
+    pub prints-fault : (place : ℕ) → NextIn allSections bytes cursor (Next.Malformed place) → Puts (FaultText (Malformed place)) longestLine buffer 0 later next → Counts next later × Prints bytes (take next later)
     prints-fault place next-in puts =
         let told = alone (Malformed place) puts in (
           told .0,
@@ -111,5 +111,5 @@ module _ {bytes before : List ℕ} {cursor : Cursor} {buffer : List ℕ} {end : 
           },
         )
 
-    pub prints-too-long : replies.TooLong bytes → Puts (FaultText TooLong) longestLine buffer 0 later next → Counts next later × Prints bytes (take next later)
+    pub prints-too-long : readers.TooLong bytes → Puts (FaultText TooLong) longestLine buffer 0 later next → Counts next later × Prints bytes (take next later)
     prints-too-long long puts = let told = alone TooLong puts in (told .0, record { reading = TooLong; reads-as = long-told bytes long; is-text = told .1 })

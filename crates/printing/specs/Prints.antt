@@ -5,7 +5,7 @@ use Prim.Native.Nat.{ℕ}
 use Rattle.sheets.specs.declared.State.{State}
 use Rattle.readings.specs.declared.Reading.{Reading}
 use Rattle.readings.specs.declared.Reading.the-variants.{StateLines, Malformed, TooLong}
-use Rattle.sheets.specs.Grammar.{Pair, Good, statesFrom}
+use Rattle.sheets.specs.Grammar.{allSections, Pair, Good, statesFrom}
 use Rattle.readings.specs.Replies.{ReadsAs}
 use Rattle.readings.specs.Figures.{sheetFigures}
 use Rattle.wording.specs.Wording.{LineText, FaultText}
@@ -17,7 +17,7 @@ LinesText (state ∷ states) text = (line : List ℕ) × (rest : List ℕ) × Li
 
 pub record AnswersText (bytes text : List ℕ) : Type 0 where
   pub lists : List (List Pair)
-  pub good : Good bytes lists
+  pub good : Good allSections bytes lists
   pub are-lines : LinesText (statesFrom 0 lists) text
 
 abbrev pub ReadingText : (bytes : List ℕ) → Reading → (text : List ℕ) → Type 0

@@ -10,14 +10,15 @@ use lib.ListN.{length, getD, getElem?}
 use Rattle.refusals.specs.Checks.{_if_, refuses, answers}
 use Rattle.refusals.proofs.Lists.{none-both, first-behind}
 use Rattle.sheets.specs.declared.State.{State}
-use Rattle.sheets.specs.Grammar.{sumOfCounts}
+use Rattle.sheets.specs.Grammar.{allSections, sumOfCounts}
 use Rattle.sheets.proofs.Written.{Written, read-good, states-counted}
 use Rattle.sheets.proofs.Theorems.{written-once}
 use Rattle.readings.specs.declared.Reading.{Reading}
 use Rattle.readings.specs.declared.Reading.the-variants as Reading
 use Rattle.readings.specs.declared.LineReading.the-variants as LineReading
 use Rattle.readings.specs.Figures.{sheetAnswered, sheetFigures, lineAnswered, lineFigures}
-use Rattle.readings.specs.Replies.{NoLine, sheetChecks, ReadsAs, LineReadsAs, shown, ShowsBack}
+use Rattle.readings.specs.Readers.{NoLine, sheetChecks}
+use Rattle.readings.specs.Replies.{ReadsAs, LineReadsAs, shown, ShowsBack}
 use Rattle.readings.proofs.Answers.{good-passes, long-told, fault-told}
 use Rattle.reader.specs.Inside.{zeros, Counted, Finds}
 
@@ -28,7 +29,7 @@ getD-getElem (state ∷ states) (suc k) inside = getD-getElem states k (le-of-su
 
 module _ (bytes : List ℕ) (k : ℕ) where
   module _ {count : ℕ} {state : State} (found : Counted bytes k count state) where
-    written : Written bytes (found .states)
+    written : Written allSections bytes (found .states)
     written = read-good bytes (found .states) (found .reads)
 
     is-sum : count ≡ sumOfCounts (written .lists)
@@ -43,7 +44,7 @@ module _ (bytes : List ℕ) (k : ℕ) where
     line-found below =
         let inside : k < length (found .states) = omega (arith, found .is-count) in
         answers
-        (none-both (sheetChecks bytes) (16 if NoLine bytes k ∷ []) (good-passes bytes (written .lists) (found .fits) (written .good))
+        (none-both (sheetChecks allSections bytes) (16 if NoLine allSections bytes k ∷ []) (good-passes bytes (written .lists) (found .fits) (written .good))
         (λ no-line. omega (arith, is-sum, no-line .few, ap sumOfCounts (written-once bytes (no-line .lists) (written .lists) (no-line .good) (written .good))), tt))
         (record {
           lists = written .lists;
@@ -56,7 +57,7 @@ module _ (bytes : List ℕ) (k : ℕ) where
     pub line-missing : count ≤ k → LineReadsAs bytes k (lineFigures LineReading.NoSuchLine)
     line-missing above =
         refuses 16
-        (first-behind (sheetChecks bytes) (16 if NoLine bytes k ∷ []) 16 (good-passes bytes (written .lists) (found .fits) (written .good))
+        (first-behind (sheetChecks allSections bytes) (16 if NoLine allSections bytes k ∷ []) 16 (good-passes bytes (written .lists) (found .fits) (written .good))
         (inl (record { lists = written .lists; good = written .good; few = omega (arith, is-sum) }, refl)))
         (record { place = 0; is-place = refl; is-told = refl })
 

@@ -9,16 +9,16 @@ use Rattle.sheets.specs.declared.State.{State}
 use Rattle.sheets.specs.declared.Cursor.{Cursor}
 use Rattle.sheets.specs.declared.Next.{Next}
 use Rattle.sheets.specs.declared.Next.the-variants as Next
-use Rattle.sheets.specs.Grammar.{sections, mostStates}
+use Rattle.sheets.specs.Grammar.{allSections, mostStates}
 use Rattle.sheets.specs.Reading.{start, Comes, FaultAt}
-use Rattle.readings.specs.Replies.{mostBytes}
+use Rattle.readings.specs.Readers.{mostBytes}
 use Rattle.readings.proofs.Nexts.{NextIn}
 use Rattle.reader.specs.Inside.{zeros, Counted}
 use Rattle.sheets.proofs.Passed.{Passed, none-passed, one-passed, all-passed}
 
 pub record Walked (bytes : List ℕ) (k : ℕ) (cursor : Cursor) (count : ℕ) (wanted : State) : Type 0 where
   pub states : List State
-  pub passed : Passed bytes cursor states
+  pub passed : Passed allSections bytes cursor states
   pub is-count : count ≡ length states
   pub is-wanted : wanted ≡ getD states k zeros
 
@@ -37,10 +37,10 @@ getD-elsewhere (other ∷ passed) state (suc k) not-here = getD-elsewhere passed
 
 module _ {bytes : List ℕ} {k : ℕ} {cursor : Cursor} {count : ℕ} {wanted : State} (walked : Walked bytes k cursor count wanted) where
   -- a sheet has no more state lines than its sections have room for
-  pub few : count ≤ mostStates * sections
+  pub few : count ≤ mostStates * allSections
   few = omega (arith, walked .is-count, walked .passed .room .states, walked .passed .room .begun)
 
-  module _ (state : State) (after : Cursor) (comes : Comes bytes cursor (Next.State state after)) where
+  module _ (state : State) (after : Cursor) (comes : Comes allSections bytes cursor (Next.State state after)) where
     walks-with : (found : State) → found ≡ getD (walked .states ++ (state ∷ [])) k zeros → Walked bytes k after (count + 1) found
     walks-with found is-found =
         record {
@@ -57,7 +57,7 @@ module _ {bytes : List ℕ} {k : ℕ} {cursor : Cursor} {count : ℕ} {wanted : 
     walks-past found not-here is-found =
         walks-with found (is-found ∙ walked .is-wanted ∙ getD-elsewhere (walked .states) state k (λ same. not-here (walked .is-count ∙ same)))
 
-  pub found-all : NextIn bytes cursor Next.Over → Counted bytes k count wanted
+  pub found-all : NextIn allSections bytes cursor Next.Over → Counted bytes k count wanted
   found-all next =
       record {
         fits = next .fits;
@@ -67,6 +67,6 @@ module _ {bytes : List ℕ} {k : ℕ} {cursor : Cursor} {count : ℕ} {wanted : 
         is-state = walked .is-wanted;
       }
 
-  pub found-fault : (place : ℕ) → NextIn bytes cursor (Next.Malformed place) → (length bytes ≤ mostBytes) × FaultAt bytes place
+  pub found-fault : (place : ℕ) → NextIn allSections bytes cursor (Next.Malformed place) → (length bytes ≤ mostBytes) × FaultAt allSections bytes place
   found-fault place next =
       (next .fits, record { before = walked .states; reads = all-passed bytes (walked .states) (Next.Malformed place) (walked .passed) (next .comes) })

@@ -14,38 +14,38 @@ use Rattle.sheets.specs.Grammar.{Pair, Good}
 use Rattle.sheets.specs.Reading.{FaultAt}
 use Rattle.sheets.proofs.Faults.{good-has-no-fault, fault-once}
 use Rattle.sheets.proofs.Theorems.{written-once}
-use Rattle.readings.specs.Replies.{mostBytes, TooLong, sheetChecks, Refused, FromLists}
+use Rattle.readings.specs.Readers.{mostBytes, TooLong, sheetChecks, Refused, FromLists}
 
-module _ (bytes : List ℕ) where
-  pub not-long : length bytes ≤ mostBytes → TooLong bytes → ⊥
-  not-long fits long = omega arith
+pub not-long : (bytes : List ℕ) → length bytes ≤ mostBytes → TooLong bytes → ⊥
+not-long bytes fits long = omega arith
 
-  pub good-passes : (lists : List (List Pair)) → length bytes ≤ mostBytes → Good bytes lists → NoneOf (sheetChecks bytes)
-  good-passes lists fits good = (not-long fits, (λ no-sheet. no-sheet lists good, tt))
+place-once : (sections : ℕ) (bytes : List ℕ) (is-6 : Bool) (place place′ : ℕ) → cond is-6 (FaultAt sections bytes place) (place ≡ 0) → cond is-6 (FaultAt sections bytes place′) (place′ ≡ 0) → place ≡ place′
+place-once sections bytes true place place′ fault fault′ = fault-once bytes place place′ fault fault′
+place-once sections bytes false place place′ none none′ = none ∙ sym none′
+
+module _ {sections : ℕ} (bytes : List ℕ) where
+  pub good-passes : (lists : List (List Pair)) → length bytes ≤ mostBytes → Good sections bytes lists → NoneOf (sheetChecks sections bytes)
+  good-passes lists fits good = (not-long bytes fits, (λ no-sheet. no-sheet lists good, tt))
 
   -- 7 and 6 are told alike, whatever else is checked
   module _ {Figures : Type 0} {more : List Check} {told : (number place : ℕ) → Figures} {Answers : Figures → Type 0} where
-    pub long-told : TooLong bytes → Tells (sheetChecks bytes ++ more) (Refused bytes told) Answers (told 7 0)
+    pub long-told : TooLong bytes → Tells (sheetChecks sections bytes ++ more) (Refused sections bytes told) Answers (told 7 0)
     long-told long = refuses 7 (inl (long, refl)) (record { place = 0; is-place = refl; is-told = refl })
 
-    pub fault-told : (place : ℕ) → length bytes ≤ mostBytes → FaultAt bytes place → Tells (sheetChecks bytes ++ more) (Refused bytes told) Answers (told 6 place)
+    pub fault-told : (place : ℕ) → length bytes ≤ mostBytes → FaultAt sections bytes place → Tells (sheetChecks sections bytes ++ more) (Refused sections bytes told) Answers (told 6 place)
     fault-told place fits fault =
-        refuses 6 (inr (not-long fits, inl (λ lists good. good-has-no-fault bytes lists place good fault, refl)))
+        refuses 6 (inr (not-long bytes fits, inl (λ lists good. good-has-no-fault bytes lists place good fault, refl)))
         (record { place = place; is-place = fault; is-told = refl })
 
-  place-once : (is-6 : Bool) (place place′ : ℕ) → cond is-6 (FaultAt bytes place) (place ≡ 0) → cond is-6 (FaultAt bytes place′) (place′ ≡ 0) → place ≡ place′
-  place-once true place place′ fault fault′ = fault-once bytes place place′ fault fault′
-  place-once false place place′ none none′ = none ∙ sym none′
-
   module _ {Figures : Type 0} (checks : List Check) (told : (number place : ℕ) → Figures) (of-lists : List (List Pair) → Option Figures) where
-    refused-once : (refusal : ℕ) (figures other : Figures) → Refused bytes told refusal figures → Refused bytes told refusal other → figures ≡ other
+    refused-once : (refusal : ℕ) (figures other : Figures) → Refused sections bytes told refusal figures → Refused sections bytes told refusal other → figures ≡ other
     refused-once refusal figures other one two =
-        one .is-told ∙ ap (told refusal) (place-once (eqb refusal 6) (one .place) (two .place) (one .is-place) (two .is-place)) ∙ sym (two .is-told)
+        one .is-told ∙ ap (told refusal) (place-once sections bytes (eqb refusal 6) (one .place) (two .place) (one .is-place) (two .is-place)) ∙ sym (two .is-told)
 
-    answered-once : (figures other : Figures) → FromLists bytes of-lists figures → FromLists bytes of-lists other → figures ≡ other
+    answered-once : (figures other : Figures) → FromLists sections bytes of-lists figures → FromLists sections bytes of-lists other → figures ≡ other
     answered-once figures other one two =
         Option·some-injective figures other
         (sym (one .is-told) ∙ ap of-lists (written-once bytes (one .lists) (two .lists) (one .good) (two .good)) ∙ two .is-told)
 
-    pub told-once : (figures other : Figures) → Tells checks (Refused bytes told) (FromLists bytes of-lists) figures → Tells checks (Refused bytes told) (FromLists bytes of-lists) other → figures ≡ other
+    pub told-once : (figures other : Figures) → Tells checks (Refused sections bytes told) (FromLists sections bytes of-lists) figures → Tells checks (Refused sections bytes told) (FromLists sections bytes of-lists) other → figures ≡ other
     told-once = tells-once checks refused-once answered-once

@@ -3,3 +3,5 @@ pub mod Figures
 pub mod Answers
 pub mod Nexts
 pub mod Theorems
+pub mod Sections
+pub mod Full

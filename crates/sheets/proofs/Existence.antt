@@ -12,19 +12,18 @@ use Rattle.sheets.specs.declared.Next.{Next}
 use Rattle.sheets.specs.declared.Next.the-variants as Next
 use Rattle.sheets.specs.declared.Line.{Line}
 use Rattle.sheets.specs.declared.Line.the-variants.{Count, Told}
-use Rattle.sheets.specs.Grammar.{sections}
 use Rattle.sheets.specs.Reading.{Comes, behind-count, here, Reads}
 use Rattle.sheets.specs.Lines.{met}
 use Rattle.sheets.proofs.Meets.{Stands, met-stands}
 use Rattle.sheets.proofs.Walks.{Ends, comes-moves}
 
-module _ (bytes : List ℕ) where
+module _ (sections : ℕ) (bytes : List ℕ) where
   pub record Something (cursor : Cursor) : Type 0 where
     pub next : Next
-    pub comes : Comes bytes cursor next
+    pub comes : Comes sections bytes cursor next
 
   -- a count line leaves one section less to begin
-  behind-line : (cursor : Cursor) (line : Line) → Stands bytes cursor line → ((after : Cursor) → sections - after .begun < sections - cursor .begun → Something after) → Something cursor
+  behind-line : (cursor : Cursor) (line : Line) → Stands sections bytes cursor line → ((after : Cursor) → sections - after .begun < sections - cursor .begun → Something after) → Something cursor
   behind-line cursor (Count after) stands later =
       let begun = ap (λ (c : Cursor). c .begun) (stands .moves) in
       let rest = later after (omega (arith, begun, stands .wanted)) in
@@ -34,16 +33,16 @@ module _ (bytes : List ℕ) where
   pub something : (more : ℕ) (cursor : Cursor) → sections - cursor .begun < more → Something cursor
   something zero cursor few = absurd (not-suc-le-zero few)
   something (suc more) cursor few =
-      behind-line cursor (met bytes cursor) (met-stands bytes cursor) (λ after fewer. something more after (omega arith))
+      behind-line cursor (met sections bytes cursor) (met-stands sections bytes cursor) (λ after fewer. something more after (omega arith))
 
   pub record Whole (cursor : Cursor) : Type 0 where
     pub states : List State
     pub last : Next
     pub ends : Ends last
-    pub reads : Reads bytes cursor states last
+    pub reads : Reads sections bytes cursor states last
 
   -- a state line leaves fewer bytes to read
-  behind-state : (cursor : Cursor) (next : Next) → Comes bytes cursor next → ((after : Cursor) → length bytes - after .place < length bytes - cursor .place → Whole after) → Whole cursor
+  behind-state : (cursor : Cursor) (next : Next) → Comes sections bytes cursor next → ((after : Cursor) → length bytes - after .place < length bytes - cursor .place → Whole after) → Whole cursor
   behind-state cursor (Next.State state after) comes later =
       let moves = comes-moves bytes comes in
       let rest = later after (omega (arith, moves .on, moves .inside)) in

@@ -15,30 +15,31 @@ use Rattle.sheets.specs.Digests.{wholeLine, scans}
 use Rattle.sheets.proofs.Splits.{take-line, inside}
 use Rattle.sheets.proofs.Walks.{Ends, reads-determined, reads-never-too-long, reading-fault-inside}
 use Rattle.sheets.proofs.Existence.{Whole, whole}
-use Rattle.sheets.proofs.Written.{read-good, good-read}
+use Rattle.sheets.proofs.Written.{read-good}
+use Rattle.sheets.proofs.Readable.{good-read}
 
-module _ (bytes : List ℕ) where
-  pub good-has-no-fault : (lists : List (List Pair)) (place : ℕ) → Good bytes lists → FaultAt bytes place → ⊥
+module _ {sections : ℕ} (bytes : List ℕ) where
+  pub good-has-no-fault : (lists : List (List Pair)) (place : ℕ) → Good sections bytes lists → FaultAt sections bytes place → ⊥
   good-has-no-fault lists place good fault =
-      let same = reads-determined bytes start (fault .before) (statesFrom 0 lists) (Next.Malformed place) Next.Over tt tt (fault .reads) (good-read bytes lists good) in
+      let same = reads-determined sections bytes start (fault .before) (statesFrom 0 lists) (Next.Malformed place) Next.Over tt tt (fault .reads) (good-read sections bytes lists good) in
       let never : _≡_ {A = ℕ} 0 1 = cc (same .same-last) in omega arith
 
-  pub fault-once : (place place′ : ℕ) → FaultAt bytes place → FaultAt bytes place′ → place ≡ place′
+  pub fault-once : (place place′ : ℕ) → FaultAt sections bytes place → FaultAt sections bytes place′ → place ≡ place′
   fault-once place place′ fault fault′ =
-      let same = reads-determined bytes start (fault .before) (fault′ .before) (Next.Malformed place) (Next.Malformed place′) tt tt (fault .reads) (fault′ .reads) in
+      let same = reads-determined sections bytes start (fault .before) (fault′ .before) (Next.Malformed place) (Next.Malformed place′) tt tt (fault .reads) (fault′ .reads) in
       cc (same .same-last)
 
-  pub good-or-fault : ((lists : List (List Pair)) × Good bytes lists) ⊎ ((place : ℕ) × FaultAt bytes place)
+  pub good-or-fault : ((lists : List (List Pair)) × Good sections bytes lists) ⊎ ((place : ℕ) × FaultAt sections bytes place)
   good-or-fault = by-end (read-whole .last) (read-whole .ends) (read-whole .reads)
     where
-      read-whole : Whole bytes start
-      read-whole = whole bytes (suc (length bytes)) start (omega arith)
+      read-whole : Whole sections bytes start
+      read-whole = whole sections bytes (suc (length bytes)) start (omega arith)
 
-      by-end : (last : Next) → Ends last → Reads bytes start (read-whole .states) last → ((lists : List (List Pair)) × Good bytes lists) ⊎ ((place : ℕ) × FaultAt bytes place)
+      by-end : (last : Next) → Ends last → Reads sections bytes start (read-whole .states) last → ((lists : List (List Pair)) × Good sections bytes lists) ⊎ ((place : ℕ) × FaultAt sections bytes place)
       by-end (Next.State state after) ends reads = absurd ends
       by-end Next.Over ends reads = let written = read-good bytes (read-whole .states) reads in inl (written .lists, written .good)
       by-end (Next.Malformed place) ends reads = inr (place, record { before = read-whole .states; reads = reads })
-      by-end Next.TooLong ends reads = absurd (reads-never-too-long bytes start (read-whole .states) reads)
+      by-end Next.TooLong ends reads = absurd (reads-never-too-long sections bytes start (read-whole .states) reads)
 
 -- where a scan from the place of a fault ends, the line's text and the line, lies behind that place and within the sheet
 pub record Lies (bytes : List ℕ) (place : ℕ) (line : Scanned) : Type 0 where
@@ -54,9 +55,9 @@ module _ (bytes : List ℕ) (place : ℕ) (line : Scanned) (is-scan : line ≡ s
   line-end : line .next ≡ place + wholeLine (drop place bytes)
   line-end = ap (λ (scanned : Scanned). scanned .next) is-scan
 
-  pub lies : FaultAt bytes place → Lies bytes place line
-  lies fault =
-      let within = reading-fault-inside bytes start (fault .before) place (omega arith) (fault .reads) in
+  pub lies : {sections : ℕ} → FaultAt sections bytes place → Lies bytes place line
+  lies {sections} fault =
+      let within = reading-fault-inside sections bytes start (fault .before) place (omega arith) (fault .reads) in
       let left = length-drop place bytes in
       let parts = inside (drop place bytes) in
       record {

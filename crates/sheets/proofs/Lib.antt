@@ -9,6 +9,7 @@ pub mod Walks
 pub mod Existence
 pub mod Passed
 pub mod Written
+pub mod Readable
 pub mod Once
 pub mod Faults
 pub mod Theorems

@@ -14,7 +14,7 @@ use Rattle.sheets.specs.Numerals.{Numeral, valueOf}
 use Rattle.sheets.specs.Reading.{start, Reads}
 use Rattle.sheets.specs.Digests.{scans}
 use Rattle.sheets.specs.Lines.{met}
-use Rattle.sheets.proofs.Written.{good-read}
+use Rattle.sheets.proofs.Readable.{good-read}
 use Rattle.sheets.proofs.Once.{sheet-once}
 use Rattle.sheets.proofs.Numerals.{decimal-is-numeral, value-of-decimal, numeral-is-decimal}
 
@@ -33,13 +33,13 @@ one-way-to-write number text written = numeral-is-decimal text (written .numeral
 pub written-is-writable : (number : ℕ) (text : List ℕ) → WrittenAs number text → Writable number
 written-is-writable number text written = omega (arith, numeral-is-decimal text (written .numeral) .writable, written .is-value)
 
-module _ (bytes : List ℕ) where
+module _ {sections : ℕ} (bytes : List ℕ) where
   -- What lists write, a walk of the cursor from the start gives back: one state line after another, and then the end.
-  pub good-sheet-reads-as-written : (lists : List (List Pair)) → Good bytes lists → Reads bytes start (statesFrom 0 lists) Next.Over
-  good-sheet-reads-as-written = good-read bytes
+  pub good-sheet-reads-as-written : (lists : List (List Pair)) → Good sections bytes lists → Reads sections bytes start (statesFrom 0 lists) Next.Over
+  good-sheet-reads-as-written = good-read sections bytes
 
   -- They are the only lists that write to it.
-  pub written-once : (lists lists′ : List (List Pair)) → Good bytes lists → Good bytes lists′ → lists ≡ lists′
+  pub written-once : (lists lists′ : List (List Pair)) → Good sections bytes lists → Good sections bytes lists′ → lists ≡ lists′
   written-once lists lists′ good good′ =
       sheet-once lists lists′ (good .writable) (good′ .writable) (good .has-sections ∙ sym (good′ .has-sections)) (sym (good .written) ∙ good′ .written)
 
@@ -49,5 +49,5 @@ start-determined cursor cursor′ is-start is-start′ = is-start ∙ sym is-sta
 pub scan-determined : (place : ℕ) (before : Digest) (bytes : List ℕ) (scanned scanned′ : Scanned) → scanned ≡ scans place before bytes → scanned′ ≡ scans place before bytes → scanned ≡ scanned′
 scan-determined place before bytes scanned scanned′ is-scan is-scan′ = is-scan ∙ sym is-scan′
 
-pub line-at-determined : (bytes : List ℕ) (cursor : Cursor) (line line′ : Line) → line ≡ met bytes cursor → line′ ≡ met bytes cursor → line ≡ line′
-line-at-determined bytes cursor line line′ is-met is-met′ = is-met ∙ sym is-met′
+pub line-at-determined : (sections : ℕ) (bytes : List ℕ) (cursor : Cursor) (line line′ : Line) → line ≡ met sections bytes cursor → line′ ≡ met sections bytes cursor → line ≡ line′
+line-at-determined sections bytes cursor line line′ is-met is-met′ = is-met ∙ sym is-met′

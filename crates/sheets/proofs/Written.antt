@@ -1,5 +1,5 @@
--- A sheet that is read to its end was written from lists, and what lists write is read as those lists. Said from any cursor on: `pairs` are the
--- state lines that the section begun last still lacks, `lists` the sections to come. Assumes nothing.
+-- A sheet that is read to its end was written from lists. Said from any cursor on: `pairs` are the state lines that the section begun last
+-- still lacks, `lists` the sections to come. Assumes nothing.
 use mathlib.Core.Path.{_≡_, refl, sym, ap, subst, _∙_}
 use mathlib.Core.List.{List, [], _∷_, _++_, append-assoc}
 use Prim.Native.Nat.{ℕ, suc, _+_, _-_, _≤_, _<_}
@@ -11,34 +11,33 @@ use Rattle.sheets.specs.declared.State.{State}
 use Rattle.sheets.specs.declared.Cursor.{Cursor}
 use Rattle.sheets.specs.declared.Next.{Next}
 use Rattle.sheets.specs.declared.Next.the-variants as Next
-use Rattle.sheets.specs.Grammar.{sections, mostStates, lineEnd, decimal, Pair, pairText, line, stateLines, section, sheet, EachWritable, EachSection, Good, ofFluid, statesFrom, sumOfCounts}
+use Rattle.sheets.specs.Grammar.{mostStates, lineEnd, decimal, Pair, pairText, line, stateLines, section, sheet, EachWritable, EachSection, Good, ofFluid, statesFrom, sumOfCounts}
 use Rattle.sheets.specs.Reading.{start, CountLine, StateLine, IsOver, Comes, behind-count, here, Reads}
 use Rattle.sheets.proofs.Splits.{drop-behind}
-use Rattle.sheets.proofs.Walks.{behind}
 
 -- a count line before its state lines and the sections to come
-count-first : (pairs : List Pair) (lists : List (List Pair)) → decimal (length pairs) ++ (lineEnd ∷ (stateLines pairs ++ sheet lists)) ≡ stateLines [] ++ sheet (pairs ∷ lists)
+pub count-first : (pairs : List Pair) (lists : List (List Pair)) → decimal (length pairs) ++ (lineEnd ∷ (stateLines pairs ++ sheet lists)) ≡ stateLines [] ++ sheet (pairs ∷ lists)
 unfolding stateLines section sheet
 count-first pairs lists =
     sym (append-snoc (decimal (length pairs)) lineEnd (stateLines pairs ++ sheet lists))
     ∙ sym (append-assoc (line (decimal (length pairs))) (stateLines pairs) (sheet lists))
 
 -- a state line before the others of its section
-state-first : (pair : Pair) (pairs : List Pair) (lists : List (List Pair)) → pairText pair ++ (lineEnd ∷ (stateLines pairs ++ sheet lists)) ≡ stateLines (pair ∷ pairs) ++ sheet lists
+pub state-first : (pair : Pair) (pairs : List Pair) (lists : List (List Pair)) → pairText pair ++ (lineEnd ∷ (stateLines pairs ++ sheet lists)) ≡ stateLines (pair ∷ pairs) ++ sheet lists
 unfolding stateLines
 state-first pair pairs lists =
     sym (append-snoc (pairText pair) lineEnd (stateLines pairs ++ sheet lists)) ∙ sym (append-assoc (line (pairText pair)) (stateLines pairs) (sheet lists))
 
-nothing : (l : List ℕ) → stateLines [] ++ l ≡ l
+pub nothing : (l : List ℕ) → stateLines [] ++ l ≡ l
 unfolding stateLines
 nothing l = refl
 
-none-first : [] ≡ stateLines [] ++ sheet []
+pub none-first : [] ≡ stateLines [] ++ sheet []
 unfolding stateLines sheet
 none-first = refl
 
 -- read to the end from a cursor on, the bytes were written from lists
-pub record Lists (bytes : List ℕ) (cursor : Cursor) (states : List State) : Type 0 where
+pub record Lists (sections : ℕ) (bytes : List ℕ) (cursor : Cursor) (states : List State) : Type 0 where
   pub pairs : List Pair
   pub lists : List (List Pair)
   pub are-left : length pairs ≡ cursor .left
@@ -48,11 +47,17 @@ pub record Lists (bytes : List ℕ) (cursor : Cursor) (states : List State) : Ty
   pub written : drop (cursor .place) bytes ≡ stateLines pairs ++ sheet lists
   pub are-states : states ≡ ofFluid (cursor .begun - 1) pairs ++ statesFrom (cursor .begun) lists
 
-module _ (bytes : List ℕ) where
-  count-lists : (cursor after : Cursor) (states : List State) → CountLine bytes cursor after → Lists bytes after states → Lists bytes cursor states
-  count-lists cursor after states line lists = from-moved (subst (λ (c : Cursor). Lists bytes c states) (line .moves) lists)
+-- from the start: a reading to the end is a good sheet's
+pub record Written (sections : ℕ) (bytes : List ℕ) (states : List State) : Type 0 where
+  pub lists : List (List Pair)
+  pub good : Good sections bytes lists
+  pub are-states : states ≡ statesFrom 0 lists
+
+module _ {sections : ℕ} (bytes : List ℕ) where
+  count-lists : (cursor after : Cursor) (states : List State) → CountLine sections bytes cursor after → Lists sections bytes after states → Lists sections bytes cursor states
+  count-lists cursor after states line lists = from-moved (subst (λ (c : Cursor). Lists sections bytes c states) (line .moves) lists)
     where
-      from-moved : Lists bytes (record { begun = suc (cursor .begun); left = line .count; place = cursor .place + suc (length (decimal (line .count))) }) states → Lists bytes cursor states
+      from-moved : Lists sections bytes (record { begun = suc (cursor .begun); left = line .count; place = cursor .place + suc (length (decimal (line .count))) }) states → Lists sections bytes cursor states
       from-moved later =
           let wanted : cursor .begun < sections = line .wanted in
           let same : length (later .pairs) ≡ line .count = later .are-left in
@@ -73,10 +78,10 @@ module _ (bytes : List ℕ) where
             are-states = later .are-states ∙ ap (λ (f : ℕ). ofFluid f (later .pairs) ++ statesFrom (suc (cursor .begun)) (later .lists)) back;
           }
 
-  state-lists : (cursor : Cursor) (state : State) (after : Cursor) (states : List State) → StateLine bytes cursor state after → Lists bytes after states → Lists bytes cursor (state ∷ states)
-  state-lists cursor state after states line lists = from-moved (subst (λ (c : Cursor). Lists bytes c states) (line .moves) lists)
+  state-lists : (cursor : Cursor) (state : State) (after : Cursor) (states : List State) → StateLine bytes cursor state after → Lists sections bytes after states → Lists sections bytes cursor (state ∷ states)
+  state-lists cursor state after states line lists = from-moved (subst (λ (c : Cursor). Lists sections bytes c states) (line .moves) lists)
     where
-      from-moved : Lists bytes (record { begun = cursor .begun; left = cursor .left - 1; place = cursor .place + suc (length (pairText (line .pair))) }) states → Lists bytes cursor (state ∷ states)
+      from-moved : Lists sections bytes (record { begun = cursor .begun; left = cursor .left - 1; place = cursor .place + suc (length (pairText (line .pair))) }) states → Lists sections bytes cursor (state ∷ states)
       from-moved later =
           let wanted : 0 < cursor .left = line .wanted in
           record {
@@ -95,7 +100,7 @@ module _ (bytes : List ℕ) where
                 ∙ ap (λ (l : List State). record { fluid = cursor .begun - 1; millikelvin = line .pair .millikelvin; pascals = line .pair .pascals } ∷ l) (later .are-states);
           }
 
-  over-lists : (cursor : Cursor) → IsOver bytes cursor → Lists bytes cursor []
+  over-lists : (cursor : Cursor) → IsOver sections bytes cursor → Lists sections bytes cursor []
   over-lists cursor over =
       record {
         pairs = [];
@@ -108,109 +113,33 @@ module _ (bytes : List ℕ) where
         are-states = refl;
       }
 
-  comes-over : {cursor : Cursor} → Comes bytes cursor Next.Over → Lists bytes cursor []
+  comes-over : {cursor : Cursor} → Comes sections bytes cursor Next.Over → Lists sections bytes cursor []
   comes-over {cursor} (behind-count {after = after} line comes) = count-lists cursor after [] line (comes-over comes)
   comes-over {cursor} (here over) = over-lists cursor over
 
-  comes-state : {cursor : Cursor} {state : State} {after : Cursor} (states : List State) → Comes bytes cursor (Next.State state after) → Lists bytes after states → Lists bytes cursor (state ∷ states)
+  comes-state : {cursor : Cursor} {state : State} {after : Cursor} (states : List State) → Comes sections bytes cursor (Next.State state after) → Lists sections bytes after states → Lists sections bytes cursor (state ∷ states)
   comes-state {cursor} {state} {after} states (behind-count {after = between} line comes) lists =
       count-lists cursor between (state ∷ states) line (comes-state states comes lists)
   comes-state {cursor} {state} {after} states (here line) lists = state-lists cursor state after states line lists
 
-  pub reads-lists : (cursor : Cursor) (states : List State) → Reads bytes cursor states Next.Over → Lists bytes cursor states
+  pub reads-lists : (cursor : Cursor) (states : List State) → Reads sections bytes cursor states Next.Over → Lists sections bytes cursor states
   reads-lists cursor [] reads = comes-over reads
   reads-lists cursor (state ∷ states) reads = comes-state states (reads .1) (reads-lists (reads .0) states (reads .2))
 
-  -- the other way: what lists write is read as those lists, wherever the last of the sections before them ends
-  abbrev Readable : List (List Pair) → Type 0
-  Readable lists =
-      (cursor : Cursor) →
-      cursor .left ≡ 0 → length lists ≡ sections - cursor .begun → drop (cursor .place) bytes ≡ stateLines [] ++ sheet lists → Reads bytes cursor (statesFrom (cursor .begun) lists) Next.Over
-
-  section-read : (lists : List (List Pair)) → Readable lists → (pairs : List Pair) (cursor : Cursor) → length pairs ≡ cursor .left → length lists ≡ sections - cursor .begun → EachWritable pairs → drop (cursor .place) bytes ≡ stateLines pairs ++ sheet lists → Reads bytes cursor (ofFluid (cursor .begun - 1) pairs ++ statesFrom (cursor .begun) lists) Next.Over
-  section-read lists readable [] cursor are-left are-sections each written = readable cursor (sym are-left) are-sections written
-  section-read lists readable (pair ∷ pairs) cursor are-left are-sections each written = (
-    after,
-    here {next = Next.State state after} line,
-    section-read lists readable pairs after (omega arith) are-sections (each .1)
-        (drop-behind bytes (cursor .place) (pairText pair) (stateLines pairs ++ sheet lists) splits),
-  )
-    where
-      after : Cursor
-      after = record { begun = cursor .begun; left = cursor .left - 1; place = cursor .place + suc (length (pairText pair)) }
-
-      state : State
-      state = record { fluid = cursor .begun - 1; millikelvin = pair .millikelvin; pascals = pair .pascals }
-
-      splits : drop (cursor .place) bytes ≡ pairText pair ++ (lineEnd ∷ (stateLines pairs ++ sheet lists))
-      splits = written ∙ sym (state-first pair pairs lists)
-
-      line : StateLine bytes cursor state after
-      line =
-          record {
-            pair = pair;
-            writable = each .0;
-            begins = record { rest = stateLines pairs ++ sheet lists; splits = splits };
-            wanted = omega arith;
-            is-state = refl;
-            moves = refl;
-          }
-
-  sheet-read : (lists : List (List Pair)) → EachSection lists → Readable lists
-  sheet-read [] each cursor none-left are-sections written = here {next = Next.Over} over
-    where
-      over : IsOver bytes cursor
-      over = record { none-left = none-left; none-wanted = omega arith; nothing-follows = written ∙ sym none-first }
-  sheet-read (pairs ∷ lists) each cursor none-left are-sections written =
-      behind bytes cursor after (ofFluid (cursor .begun) pairs ++ statesFrom (suc (cursor .begun)) lists) Next.Over
-      line
-      (subst (λ (f : ℕ). Reads bytes after (ofFluid f pairs ++ statesFrom (suc (cursor .begun)) lists) Next.Over) back
-      (section-read lists (sheet-read lists (each .1)) pairs after refl (omega arith) (each .0 .states)
-      (drop-behind bytes (cursor .place) (decimal (length pairs)) (stateLines pairs ++ sheet lists) splits)))
-    where
-      after : Cursor
-      after = record { begun = suc (cursor .begun); left = length pairs; place = cursor .place + suc (length (decimal (length pairs))) }
-
-      back : suc (cursor .begun) - 1 ≡ cursor .begun
-      back = omega arith
-
-      splits : drop (cursor .place) bytes ≡ decimal (length pairs) ++ (lineEnd ∷ (stateLines pairs ++ sheet lists))
-      splits = written ∙ sym (count-first pairs lists)
-
-      line : CountLine bytes cursor after
-      line =
-          record {
-            count = length pairs;
-            begins = record { rest = stateLines pairs ++ sheet lists; splits = splits };
-            none-left = none-left;
-            wanted = omega arith;
-            few = each .0 .count;
-            moves = refl;
-          }
-
-  -- from the start: a reading to the end is a good sheet's
-  pub record Written (states : List State) : Type 0 where
-    pub lists : List (List Pair)
-    pub good : Good bytes lists
-    pub are-states : states ≡ statesFrom 0 lists
-
-  pub read-good : (states : List State) → Reads bytes start states Next.Over → Written states
+  pub read-good : (states : List State) → Reads sections bytes start states Next.Over → Written sections bytes states
   read-good states reads = none-left (whole .pairs) (whole .are-left) (whole .written) (whole .are-states)
     where
-      whole : Lists bytes start states
+      whole : Lists sections bytes start states
       whole = reads-lists start states reads
 
-      none-left : (pairs : List Pair) → length pairs ≡ 0 → bytes ≡ stateLines pairs ++ sheet (whole .lists) → states ≡ ofFluid 0 pairs ++ statesFrom 0 (whole .lists) → Written states
+      none-left : (pairs : List Pair) → length pairs ≡ 0 → bytes ≡ stateLines pairs ++ sheet (whole .lists) → states ≡ ofFluid 0 pairs ++ statesFrom 0 (whole .lists) → Written sections bytes states
       none-left [] none written are-states =
           record {
             lists = whole .lists;
-            good = record { has-sections = whole .are-sections; writable = whole .each-section; written = written ∙ nothing (sheet (whole .lists)) };
+            good = record { has-sections = omega (arith, whole .are-sections); writable = whole .each-section; written = written ∙ nothing (sheet (whole .lists)) };
             are-states = are-states;
           }
       none-left (pair ∷ pairs) none written are-states = absurd (suc-ne-zero (length pairs) none)
-
-  pub good-read : (lists : List (List Pair)) → Good bytes lists → Reads bytes start (statesFrom 0 lists) Next.Over
-  good-read lists good = sheet-read lists (good .writable) start refl (good .has-sections) (good .written ∙ sym (nothing (sheet lists)))
 
 section-counted : (fluid : ℕ) (pairs : List Pair) → length (ofFluid fluid pairs) ≡ length pairs
 section-counted fluid [] = refl

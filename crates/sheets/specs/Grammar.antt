@@ -7,9 +7,9 @@ use lib.Dec.{ltb}
 use lib.ListN.{length}
 use Rattle.sheets.specs.declared.State.{State}
 
--- hydrogen, then oxygen
-abbrev pub sections : ℕ
-sections = 2
+-- hydrogen, then oxygen, then nitrogen
+abbrev pub allSections : ℕ
+allSections = 3
 
 -- of a section
 abbrev pub mostStates : ℕ
@@ -86,7 +86,8 @@ abbrev pub EachSection : List (List Pair) → Type 0
 EachSection [] = Unit {0}
 EachSection (pairs ∷ lists) = WritableSection pairs × EachSection lists
 
-pub record Good (bytes : List ℕ) (lists : List (List Pair)) : Type 0 where
+-- a good sheet of so many sections
+pub record Good (sections : ℕ) (bytes : List ℕ) (lists : List (List Pair)) : Type 0 where
   pub has-sections : length lists ≡ sections
   pub writable : EachSection lists
   pub written : bytes ≡ sheet lists

@@ -12,21 +12,11 @@ use Rattle.sheets.specs.declared.Line.the-variants.{Count, Told}
 use Rattle.sheets.specs.declared.Digest.{Digest}
 use Rattle.sheets.specs.declared.Digest.the-variants.{Empty, First, AfterSpace, Second, Bad}
 use Rattle.sheets.specs.declared.Scanned.{Scanned}
-use Rattle.sheets.specs.Grammar.{sections, mostStates}
+use Rattle.sheets.specs.Grammar.{mostStates}
 use Rattle.sheets.specs.Digests.{scans}
 
 abbrev pub faulty : (place : ℕ) → Line
 faulty place = Told (Next.Malformed place)
-
-abbrev pub counted : Cursor → (next count : ℕ) → Line
-counted cursor next count =
-    cond (eqb (cursor .left) 0)
-    (cond (leb sections (cursor .begun))
-    (faulty (cursor .place))
-    (cond (ltb mostStates count)
-    (faulty (cursor .place))
-    (Count (record { begun = suc (cursor .begun); left = count; place = next }))))
-    (faulty (cursor .place))
 
 abbrev pub stated : Cursor → (next millikelvin pascals : ℕ) → Line
 stated cursor next millikelvin pascals =
@@ -36,21 +26,33 @@ stated cursor next millikelvin pascals =
     (record { fluid = cursor .begun - 1; millikelvin = millikelvin; pascals = pascals })
     (record { begun = cursor .begun; left = cursor .left - 1; place = next })))
 
-abbrev pub ended : Cursor → (next : ℕ) → Digest → Line
-ended cursor next Empty = faulty (cursor .place)
-ended cursor next (First number) = counted cursor next number
-ended cursor next (AfterSpace number) = faulty (cursor .place)
-ended cursor next (Second first second) = stated cursor next first second
-ended cursor next Bad = faulty (cursor .place)
+-- in a sheet of so many sections
+module _ (sections : ℕ) where
+  abbrev pub counted : Cursor → (next count : ℕ) → Line
+  counted cursor next count =
+      cond (eqb (cursor .left) 0)
+      (cond (leb sections (cursor .begun))
+      (faulty (cursor .place))
+      (cond (ltb mostStates count)
+      (faulty (cursor .place))
+      (Count (record { begun = suc (cursor .begun); left = count; place = next }))))
+      (faulty (cursor .place))
 
-abbrev pub unended : Cursor → (end : ℕ) → Line
-unended cursor end =
-    cond (ltb (cursor .place) end)
-    (faulty (cursor .place))
-    (cond (eqb (cursor .left) 0) (cond (ltb (cursor .begun) sections) (faulty (cursor .place)) (Told Next.Over)) (faulty (cursor .place)))
+  abbrev pub ended : Cursor → (next : ℕ) → Digest → Line
+  ended cursor next Empty = faulty (cursor .place)
+  ended cursor next (First number) = counted cursor next number
+  ended cursor next (AfterSpace number) = faulty (cursor .place)
+  ended cursor next (Second first second) = stated cursor next first second
+  ended cursor next Bad = faulty (cursor .place)
 
-abbrev pub behindScan : Cursor → Scanned → Line
-behindScan cursor line = cond (ltb (line .end) (line .next)) (ended cursor (line .next) (line .digest)) (unended cursor (line .end))
+  abbrev pub unended : Cursor → (end : ℕ) → Line
+  unended cursor end =
+      cond (ltb (cursor .place) end)
+      (faulty (cursor .place))
+      (cond (eqb (cursor .left) 0) (cond (ltb (cursor .begun) sections) (faulty (cursor .place)) (Told Next.Over)) (faulty (cursor .place)))
 
-abbrev pub met : (bytes : List ℕ) → Cursor → Line
-met bytes cursor = behindScan cursor (scans (cursor .place) Empty (drop (cursor .place) bytes))
+  abbrev pub behindScan : Cursor → Scanned → Line
+  behindScan cursor line = cond (ltb (line .end) (line .next)) (ended cursor (line .next) (line .digest)) (unended cursor (line .end))
+
+  abbrev pub met : (bytes : List ℕ) → Cursor → Line
+  met bytes cursor = behindScan cursor (scans (cursor .place) Empty (drop (cursor .place) bytes))

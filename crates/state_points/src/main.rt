@@ -17,6 +17,8 @@ ghost use Prim.Native.Nat.{_*_, _<_};
 
 const SLOTS: u64 = 64;
 
+const FLUIDS: usize = 3;
+
 fn wide(byte: u8) -> u64 {
     byte as u64
 }
@@ -60,20 +62,20 @@ fn print_state(fluid: u64, millikelvin: u64, pascals: u64, slot: u64, book: &mut
     print_figures(reply.figures());
 }
 
-// Every pair of the two tables, for one fluid and then the other in the same slot: where both are
-// answered, each finds the other's root there. Answers how many states it asked, as `print_sides`,
-// `print_refusals`, `print_densities` and `print_walk` do.
+// Every pair of the two tables, for one fluid after another in the same slot: where several are answered,
+// each finds another's root there. Answers how many states it asked, as `print_sides`, `print_refusals`,
+// `print_densities` and `print_walk` do.
 fn print_pairs(book: &mut [u8]) -> u64
-    ensures { λ r. ⌜ r ≡ 2 * 58 * 42 ⌝ }
+    ensures { λ r. ⌜ r ≡ 3 * 64 * 45 ⌝ }
 {
     let mut asked = 0;
-    for pair in 0..TEMPERATURES.len() * PRESSURES.len() {
+    for question in 0..FLUIDS * TEMPERATURES.len() * PRESSURES.len() {
+        let pair = question / FLUIDS;
+        let fluid = (question % FLUIDS) as u64;
         let millikelvin = TEMPERATURES[pair / PRESSURES.len()];
         let pascals = PRESSURES[pair % PRESSURES.len()];
-        let slot = pair as u64 % SLOTS;
-        print_state(0, millikelvin, pascals, slot, book);
-        print_state(1, millikelvin, pascals, slot, book);
-        asked += 2;
+        print_state(fluid, millikelvin, pascals, pair as u64 % SLOTS, book);
+        asked += 1;
     }
     asked
 }
@@ -93,7 +95,7 @@ fn print_sides(book: &mut [u8]) -> u64
 fn print_refusals(book: &mut [u8]) -> u64
     ensures { λ r. ⌜ r ≡ 4 ⌝ }
 {
-    print_state(2, 0, 0, SLOTS, book);
+    print_state(3, 0, 0, SLOTS, book);
     print_state(LARGEST, LARGEST, LARGEST, LARGEST, book);
     print_state(1, 300_000, 1_000_000, SLOTS, book);
     print_state(0, 300_000, 1_000_000, LARGEST, book);
@@ -103,13 +105,15 @@ fn print_refusals(book: &mut [u8]) -> u64
 // Densities that reach their last gram only by what the molar mass leaves over the gas constant: for each
 // fluid a state with one root and one with two.
 fn print_densities(book: &mut [u8]) -> u64
-    ensures { λ r. ⌜ r ≡ 4 ⌝ }
+    ensures { λ r. ⌜ r ≡ 6 ⌝ }
 {
     print_state(0, 24_073, 15_549_695, 0, book);
     print_state(0, 25_329, 397_317, 1, book);
     print_state(1, 121_784, 3_611_541, 2, book);
     print_state(1, 107_132, 37_618, 3, book);
-    4
+    print_state(2, 84_223, 3_373_821, 4, book);
+    print_state(2, 109_820, 314_834, 5, book);
+    6
 }
 
 // Park and Miller's generator: the same numbers in every run, each below the prime 2^31 - 1.
@@ -123,13 +127,10 @@ fn next(random: u64) -> u64
 // Now and then a number that no fluid has.
 fn fluid_from(random: u64) -> u64 {
     let choice = random % 16;
-    if choice < 8 {
-        return 0;
-    }
     if choice < 15 {
-        return 1;
+        return choice % FLUIDS as u64;
     }
-    2 + random % 1_000
+    FLUIDS as u64 + random % 1_000
 }
 
 // A state at random: a temperature and a pressure from a little above their ranges downwards, small ones as

@@ -72,10 +72,10 @@ pub(crate) const MISLEADING: [u64; 64] = [
     15_000_000,
 ];
 
-// Millikelvin: the ends of both ranges with their neighbours, 0 and the largest number, hydrogen from
-// 14 K and oxygen from 56 K up to the critical temperatures, and these with their neighbours. Hydrogen's
-// depends on the temperature, and is the temperature itself near 32,786.
-pub(crate) const TEMPERATURES: [u64; 58] = [
+// Millikelvin: the ends of the ranges with their neighbours, 0 and the largest number, hydrogen from
+// 14 K, oxygen from 56 K and nitrogen from 64 K up to the critical temperatures, and these with their
+// neighbours. Hydrogen's depends on the temperature, and is the temperature itself near 32,786.
+pub(crate) const TEMPERATURES: [u64; 64] = [
     0,
     13_999,
     14_000,
@@ -107,6 +107,9 @@ pub(crate) const TEMPERATURES: [u64; 58] = [
     56_000,
     56_001,
     60_000,
+    63_999,
+    64_000,
+    64_001,
     65_000,
     70_000,
     75_000,
@@ -120,6 +123,9 @@ pub(crate) const TEMPERATURES: [u64; 58] = [
     115_000,
     120_000,
     125_000,
+    126_191,
+    126_192,
+    126_193,
     130_000,
     135_000,
     140_000,
@@ -136,8 +142,8 @@ pub(crate) const TEMPERATURES: [u64; 58] = [
     LARGEST,
 ];
 
-// Pascals: likewise, and close together where both fluids have SPLIT states.
-pub(crate) const PRESSURES: [u64; 42] = [
+// Pascals: likewise, and close together where all fluids have SPLIT states.
+pub(crate) const PRESSURES: [u64; 45] = [
     0,
     9999,
     10_000,
@@ -169,6 +175,9 @@ pub(crate) const PRESSURES: [u64; 42] = [
     2_000_000,
     2_500_000,
     3_000_000,
+    3_395_799,
+    3_395_800,
+    3_395_801,
     3_500_000,
     4_200_000,
     5_041_999,

@@ -6,13 +6,13 @@ use Rattle.refusals.specs.Checks.{FirstOf, refuses}
 use Rattle.refusals.proofs.Lists.{first-front, first-behind}
 use Rattle.books.specs.Layouts.{lastSlot}
 use Rattle.fluid.specs.declared.choice.Fluid.{Fluid}
-use Rattle.fluid.specs.declared.choice.Fluid.the-variants.{Hydrogen, Oxygen}
 use Rattle.fluid.specs.Figures.{numberOf, coldest, hottest, lowest, highest, Accepted}
 use Rattle.fluid.specs.Checks.{stateChecks}
-use Rattle.fluid.proofs.Accepting.{no-fluid, unknown-fluid, too-cold, too-hot, too-low, too-high, passes}
+use Rattle.fluid.proofs.Fluids.{lastNumber, fluidOf, no-fluid}
+use Rattle.fluid.proofs.Accepting.{unknown-fluid, too-cold, too-hot, too-low, too-high, passes}
 use Rattle.replies.specs.Figures.{refusedWith}
 use Rattle.worked.specs.Rows.{Span, inBook, Replied, RightRefusal}
-use Rattle.worked.proofs.Tests.{Tested, by, _with_, _or_, equal, differ, at-most, below}
+use Rattle.worked.proofs.Tests.{Tested, by, _with_, _or_, equal, at-most, below}
 use Rattle.worked.proofs.Spans.{for-each, at-each}
 use Rattle.worked.proofs.Answers.{accepted}
 
@@ -24,8 +24,7 @@ before-slot number millikelvin pascals slot refusal first =
 module _ (number millikelvin refusal : ℕ) where
   abbrev pub unknown : Tested ((pascals : ℕ) → FirstOf (stateChecks number millikelvin pascals) refusal)
   unknown =
-      by (λ is-1 hydrogen oxygen pascals. unknown-fluid number millikelvin pascals is-1 (no-fluid hydrogen oxygen))
-      with equal refusal 1 with differ number (numberOf Hydrogen) with differ number (numberOf Oxygen)
+      by (λ is-1 above pascals. unknown-fluid number millikelvin pascals is-1 (no-fluid above)) with equal refusal 1 with below lastNumber number
 
   module _ (fluid : Fluid) where
     abbrev pub temperature : Tested ((pascals : ℕ) → FirstOf (stateChecks number millikelvin pascals) refusal)
@@ -66,4 +65,4 @@ module _ (number millikelvin refusal : ℕ) where
         or for-each pressures (λ pascals. for-each slots (λ slot. slot-past fluid pascals slot))
 
     abbrev pub right-refusal : Tested (RightRefusal number millikelvin pressures slots refusal)
-    right-refusal = at-every-pressure unknown or of-fluid Hydrogen or of-fluid Oxygen
+    right-refusal = at-every-pressure unknown or of-fluid (fluidOf number)

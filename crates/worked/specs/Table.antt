@@ -1,9 +1,10 @@
--- Document 01, "Points worked through", with the finer numbers and the gas constant of document 02 (C-12, C-16): the starred points, in its
--- order. What a row says is in Rows.antt; that every row is right is `starred-points`, in proofs/Theorems.antt. Where the paper names no pressure a row is for all of them,
--- and where it names no slot for every slot that leads to the same reply, which for an answer is every one up to 63.
+-- Document 01, "Points worked through", with the finer numbers, the gas constant and the case of fluid 3 of document 02 (C-12, C-16, C-20):
+-- the starred points, in its order, and behind them nitrogen's. What a row says is in Rows.antt; that every row is right is `starred-points`,
+-- in proofs/Theorems.antt. Where the paper names no pressure a row is for all of them, and where it names no slot for every slot that leads
+-- to the same reply, which for an answer is every one up to 63.
 use mathlib.Core.List.{List, [], _∷_}
 use lib.IntN.{pos, negℤ}
-use Rattle.fluid.specs.declared.choice.Fluid.the-variants.{Hydrogen, Oxygen}
+use Rattle.fluid.specs.declared.choice.Fluid.the-variants.{Hydrogen, Oxygen, Nitrogen}
 use Rattle.replies.specs.declared.Reply.the-variants.{One, Split}
 use Rattle.worked.specs.Rows.{Row, answered, value, refused, only, up-to, all}
 
@@ -20,6 +21,10 @@ table =
     ∷ refused 1 56000 (only 9999) all 31
     ∷ answered Oxygen 56000 10000 154576 5042000 (record { t = 3622; p = 1983; s = 6018; a = 1073; b = 47 }) (up-to 63) (Split 98963 51 694 1347538)
     ∷ answered Oxygen 56000 50000000 154576 5042000 (record { t = 3622; p = 9916699; s = 6018; a = 5369500; b = 237212 }) (up-to 63) (One 256275 1340834)
-    ∷ refused 2 0 all all 1
+    ∷ refused 3 0 all all 1
     ∷ refused 1 300000 (only 1000000) (only 64) 4
+    ∷ answered Nitrogen 300000 1000000 126192 3395800 (record { t = 23773; p = 294481; s = 15418; a = 1444; b = 1073 }) (up-to 63) (One 99654 11269)
+    ∷ answered Nitrogen 90000 300000 126192 3395800 (record { t = 7131; p = 88344; s = 8444; a = 8795; b = 1073 }) (up-to 63) (Split 91704 1518 12246 739841)
+    ∷ answered Nitrogen 64000 10000 126192 3395800 (record { t = 5071; p = 2944; s = 7121; a = 687; b = 50 }) (up-to 63) (Split 99359 59 529 892276)
+    ∷ refused 2 63999 all all 21
     ∷ []

@@ -162,6 +162,20 @@ fn answered_states() {
     worked_through(1, 56_000, 50_000_000);
 }
 
+// Nitrogen's (document 02, C-20): a state of each kind, and the ends of its ranges.
+fn nitrogen() {
+    worked_through(2, 300_000, 1_000_000);
+    worked_through(2, 90_000, 300_000);
+    worked_through(2, 64_000, 10_000);
+    worked_through(2, 64_000, 50_000_000);
+    worked_through(2, 1_000_000, 10_000);
+    worked_through(2, 1_000_000, 50_000_000);
+    asked(2, 63_999, 10_000);
+    asked(2, 1_000_001, 10_000);
+    asked(2, 64_000, 9_999);
+    asked(2, 64_000, 50_000_001);
+}
+
 // Each range from both sides of an end, and states to which more than one refusal applies.
 fn refused_states() {
     asked(1, 55_999, 1_000_000);
@@ -170,9 +184,9 @@ fn refused_states() {
     asked(0, 1_000_001, 10_000);
     asked(1, 56_000, 9_999);
     asked(1, 56_000, 50_000_001);
-    asked(2, 0, 1_000_000);
-    asked(2, 0, 0);
-    asked(2, 1_000_001, 1_000_000);
+    asked(3, 0, 1_000_000);
+    asked(3, 0, 0);
+    asked(3, 1_000_001, 1_000_000);
     asked(1, 0, 0);
     asked(1, 1_000_001, 50_000_001);
 }
@@ -186,7 +200,7 @@ fn books() {
     asked_with(191, 1, 300_000, 1_000_000, 62, 99_286);
     asked_with(193, 1, 300_000, 1_000_000, 62, 99_286);
     asked_with(256, 1, 300_000, 1_000_000, 64, 99_286);
-    asked_with(192, 2, 0, 0, 62, 99_286);
+    asked_with(192, 3, 0, 0, 62, 99_286);
     asked_with(192, 1, 55_999, 0, 62, 99_286);
     asked_with(192, 1, 56_000, 9_999, 62, 99_286);
     asked_with(191, 1, 56_000, 9_999, 64, 99_286);
@@ -226,4 +240,5 @@ fn main() {
     books();
     starts();
     errors_that_look_right();
+    nitrogen();
 }

@@ -2,7 +2,8 @@
 //!
 //! One run of the benchmark differs from the next by more than most changes do. Here all builds answer
 //! the same states in one process, in an order drawn anew for each round, so that neither what else the
-//! machine does nor a place in the order favours one of them.
+//! machine does nor a place in the order favours one of them. A state that one of them refuses is asked of
+//! none: a build from before a fluid came refuses it at once, and would look quicker for that.
 
 use crate::rounds::{pass, timing, Timing, ROUNDS, WARM_UP_ROUNDS};
 use second::random::Random;
@@ -28,19 +29,25 @@ const NOW: c_int = 2;
 /// Prints each build's rounds, and the median of what it takes more in a round than the first build.
 pub fn measure(builds: &[String], states: &[State], random: &mut Random) {
     let calls: Vec<Call> = builds.iter().map(|build| loaded(build)).collect();
+    let answered = answered_by_all(&calls, states);
+    assert!(!answered.is_empty(), "no state that every build answers");
     let mut order: Vec<usize> = (0..calls.len()).collect();
     let mut rounds = vec![Vec::new(); calls.len()];
     for round in 0..WARM_UP_ROUNDS + ROUNDS {
         shuffle(&mut order, random);
         for &build in &order {
-            let nanoseconds = answer_all(calls[build], states);
+            let nanoseconds = answer_all(calls[build], &answered);
             if round >= WARM_UP_ROUNDS {
                 rounds[build].push(nanoseconds);
             }
         }
     }
-    println!("nanoseconds per state: the median round, the quickest, and the median of what a round takes");
-    println!("more than the first build's");
+    println!(
+        "{} of {} states, which every build answers; nanoseconds per state: the median round, the quickest,",
+        answered.len(),
+        states.len()
+    );
+    println!("and the median of what a round takes more than the first build's");
     for (build, of_build) in builds.iter().zip(&rounds) {
         let more = of_build
             .iter()
@@ -67,20 +74,35 @@ fn loaded(build: &str) -> Call {
     unsafe { std::mem::transmute::<*mut c_void, Call>(call) }
 }
 
+fn answered_by_all(calls: &[Call], states: &[State]) -> Vec<State> {
+    let mut figures = [0; FIGURES];
+    let mut answers = |state: &State| {
+        calls
+            .iter()
+            .all(|&call| ask(call, state, &mut figures) == 0)
+    };
+    let states = states.iter().copied();
+    states.filter(|state| answers(state)).collect()
+}
+
 fn answer_all(call: Call, states: &[State]) -> f64 {
     let mut figures = [0; FIGURES];
     pass(states, |state| {
-        // SAFETY: the function writes that many figures and nothing else.
-        let number = unsafe {
-            call(
-                state.fluid,
-                state.millikelvin,
-                state.pascals,
-                figures.as_mut_ptr(),
-            )
-        };
+        let number = ask(call, state, &mut figures);
         black_box((number, &figures));
     })
+}
+
+/// The reply's number; the figures are written.
+#[inline]
+fn ask(call: Call, state: &State, figures: &mut [u64; FIGURES]) -> u64 {
+    let State {
+        fluid,
+        millikelvin,
+        pascals,
+    } = *state;
+    // SAFETY: the function writes that many figures and nothing else.
+    unsafe { call(fluid, millikelvin, pascals, figures.as_mut_ptr()) }
 }
 
 /// Fisher and Yates's.

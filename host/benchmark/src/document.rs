@@ -4,7 +4,8 @@ use crate::peer;
 use crate::report::{grouped, percent, Bar, Report};
 use crate::rounds::{ROUNDS, WARM_UP_ROUNDS};
 use second::cubic::N;
-use second::state::{COLDEST, HIGHEST_PRESSURE, HOTTEST, LOWEST_PRESSURE};
+use second::sheet::LARGEST_COUNT;
+use second::state::{Fluid, FLUIDS, HIGHEST_PRESSURE, HOTTEST, LOWEST_PRESSURE};
 use std::fmt::{Display, Formatter, Result};
 use std::fs;
 
@@ -78,19 +79,23 @@ doubles, with the cubic solver of the GNU Scientific Library (GSL).
         let (timed, share) = (grouped(self.timed), percent(self.split, self.timed));
         let [lowest, highest, hottest] =
             [LOWEST_PRESSURE, HIGHEST_PRESSURE, HOTTEST].map(|end| grouped(end as usize));
-        let [hydrogen, oxygen] = COLDEST.map(|coldest| grouped(coldest as usize));
-        let [hydrogen_3, oxygen_3] = COLDEST.map(|coldest| grouped(3 * coldest as usize));
+        let fluids = of_fluids("or", |fluid| fluid.name.to_string());
+        let coldest = of_fluids("and", |fluid| {
+            format!("{} from {}", fluid.name, grouped(fluid.coldest as usize))
+        });
+        let three_times = of_fluids("and", |fluid| grouped(3 * fluid.coldest as usize));
         write!(
             out,
             "\
 {timed} states, the same in every run, all of them accepted. **{share} are SPLIT**: the gas root and
 the dense root differ.
 
-- Fluid: hydrogen or oxygen, one as likely as the other.
+- Fluid: {fluids}, one as likely as another.
 - Pressure: {lowest} to {highest} Pa, every decade as likely as any other.
-- Temperature: in about half of the states anywhere in the fluid's range, hydrogen from {hydrogen} and oxygen
-  from {oxygen} to {hottest} mK. In the others it is at most three times the coldest, {hydrogen_3} and
-  {oxygen_3} mK: SPLIT states lie below the critical temperature, which is under that.
+- Temperature: in about half of the states anywhere in the fluid's range,
+  {coldest}, each to {hottest} mK. In the others
+  it is at most three times the coldest, {three_times} mK: SPLIT states lie below the critical
+  temperature, which is under that.
 "
         )
     }
@@ -110,6 +115,12 @@ a is 0 the root itself is a whole number, and a double that falls short of it ha
     }
 }
 
+/// What is said of each fluid, with commas between, and this word before the last.
+fn of_fluids(before_last: &str, said: fn(Fluid) -> String) -> String {
+    let [others @ .., last] = FLUIDS.map(said);
+    format!("{} {before_last} {last}", others.join(", "))
+}
+
 fn write_about_bars(out: &mut Formatter) -> Result {
     write!(
         out,
@@ -124,10 +135,11 @@ almost any search beats that.
 }
 
 fn write_about_programs(out: &mut Formatter) -> Result {
+    let count = grouped(LARGEST_COUNT as usize);
     write!(
         out,
         "
-Both read one full sheet of 1,000 and 1,000 states. These are means of runs that alternate and all print
+Both read one full sheet of {count} states for each fluid. These are means of runs that alternate and all print
 the same, byte for byte. A kernel that samples by ticks may count a short run's system time as user time.
 "
     )

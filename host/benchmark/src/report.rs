@@ -4,6 +4,7 @@ use crate::contenders::Timings;
 use crate::floors::{with_a_zero, Difference};
 use crate::programs::{UserTimes, PROVED_RUNS, SECOND_RUNS};
 use crate::rounds::Timing;
+use second::state::FLUIDS;
 use std::fmt::{Formatter, Result};
 
 /// Everything of one run. The first four say how many states something was done on.
@@ -159,7 +160,7 @@ impl Report {
 
 fn write_difference(out: &mut Formatter, given: &str, difference: &Difference) -> Result {
     let state = difference.state;
-    let fluid = ["hydrogen", "oxygen"][state.fluid as usize];
+    let fluid = FLUIDS[state.fluid as usize].name;
     let [millikelvin, pascals, proved, floor] = [
         state.millikelvin,
         state.pascals,

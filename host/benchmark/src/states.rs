@@ -2,22 +2,24 @@
 
 use second::random::Random;
 use second::sheet::State;
-use second::state::{COLDEST, HIGHEST_PRESSURE, HOTTEST, LOWEST_PRESSURE};
+use second::state::{Fluid, FLUIDS, HIGHEST_PRESSURE, HOTTEST, LOWEST_PRESSURE};
 
-/// As many accepted states as asked for, of both fluids alike.
+/// As many accepted states as asked for, of all fluids alike.
 pub fn spread(count: usize, random: &mut Random) -> Vec<State> {
     (0..count).map(|_| accepted(random)).collect()
 }
 
 /// The pressure is log-uniform. The temperature is uniform, in one half of the states over the whole
-/// range and in the other up to three times the coldest: that is just above both critical
-/// temperatures, so that SPLIT states, which lie below, are no rarity.
+/// range and in the other up to three times the coldest: that is not far above the critical
+/// temperature of any fluid, so that SPLIT states, which lie below, are no rarity.
 fn accepted(random: &mut Random) -> State {
-    let fluid = random.number() % 2;
-    let coldest = COLDEST[fluid as usize];
+    let fluid = random.number() as usize % FLUIDS.len();
+    let Fluid {
+        number, coldest, ..
+    } = FLUIDS[fluid];
     let hottest = [3 * coldest, HOTTEST][random.number() as usize % 2];
     State {
-        fluid,
+        fluid: number,
         millikelvin: coldest + random.number() % (hottest - coldest + 1),
         pascals: log_uniform(LOWEST_PRESSURE, HIGHEST_PRESSURE, random),
     }

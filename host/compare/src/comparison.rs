@@ -127,7 +127,7 @@ mod tests {
         vec![
             Call::state(state),
             Call::heat(0),
-            Call::sheet(b"0\n0\n0", 4),
+            Call::sheet(b"0\n0\n0\n0", 6),
             Call::side_with_book(state, 1, 63, &[7; 195], 192),
             Call::state_with_book(state, 63, &[7; 195], 192),
         ]
@@ -181,7 +181,7 @@ mod tests {
     #[test]
     fn differences_of_what_stays() {
         let heat = || vec![Call::heat(0)];
-        let sheet = || vec![Call::sheet(b"0\n0\n0", 4)];
+        let sheet = || vec![Call::sheet(b"0\n0\n0\n0", 6)];
         let side = || vec![Call::side([1, 120_000, 500_000], 0)];
         assert!(outcome(heat(), |call| call.places[0] ^= 1).is_err());
         assert!(outcome(sheet(), |call| call.sheet[0] = b'1').is_err());

@@ -9,10 +9,10 @@ mod states;
 
 use crate::comparison::{Comparison, Outcome};
 use crate::workers::Unit;
-use second::state::COLDEST;
+use second::state::FLUIDS as ALL;
 
-/// Document 01's worked states, the refused ones among them.
-const WORKED: [[u64; 3]; 9] = [
+/// Document 01's worked states and C-20's, the refused ones among them.
+const WORKED: [[u64; 3]; 15] = [
     [1, 300_000, 1_000_000],
     [1, 120_000, 500_000],
     [0, 300_000, 1_000_000],
@@ -21,12 +21,22 @@ const WORKED: [[u64; 3]; 9] = [
     [1, 56_000, 9_999],
     [1, 56_000, 10_000],
     [1, 56_000, 50_000_000],
-    [2, 0, 0],
+    [2, 300_000, 1_000_000],
+    [2, 90_000, 300_000],
+    [2, 63_999, 500_000],
+    [2, 64_000, 9_999],
+    [2, 64_000, 10_000],
+    [2, 64_000, 50_000_000],
+    [3, 0, 0],
 ];
 
 /// Each fluid's number, its lowest temperature, and the one above which no state is SPLIT, where the
 /// temperature is the critical one; for hydrogen that is 43,600 - 2,180,000,000 / 201,594.
-const FLUIDS: [(u64, u64, u64); 2] = [(0, COLDEST[0], 32_786), (1, COLDEST[1], 154_576)];
+const FLUIDS: [(u64, u64, u64); ALL.len()] = [
+    (0, ALL[0].coldest, 32_786),
+    (1, ALL[1].coldest, 154_576),
+    (2, ALL[2].coldest, 126_192),
+];
 
 /// No sides, though the third and fourth are gas and dense to whoever keeps 32 bits.
 const NO_SIDES: [u64; 6] = [2, 3, 1 << 32, (1 << 32) + 1, 1 << 63, u64::MAX];

@@ -64,6 +64,7 @@ impl Values {
 mod tests {
     use super::*;
     use crate::random::Random;
+    use crate::state::{critical, reduced, Reduced, FLUIDS, HIGHEST_PRESSURE};
 
     /// Document 01, "Points worked through".
     #[test]
@@ -84,7 +85,11 @@ mod tests {
         for a in [0, 1, LARGEST_A - 1, LARGEST_A] {
             points.extend([0, 1, LARGEST_B - 1, LARGEST_B].map(|b| (a, b)));
         }
-        points.extend([(10_969_036, 954_341), (3_437_284, 251_566)]);
+        points.extend(FLUIDS.map(|fluid| {
+            let critical = critical(fluid.number, fluid.coldest);
+            let Reduced { a, b, .. } = reduced(&critical, fluid.coldest, HIGHEST_PRESSURE);
+            (a, b)
+        }));
         let mut random = Random(0x5EED);
         points.extend((0..30).map(|_| (random.magnitude(LARGEST_A), random.magnitude(LARGEST_B))));
         points

@@ -1,10 +1,13 @@
-//! Document 01, "State sheets": a sheet read line by line, and what the program `sheet` prints of it, both
-//! sides of a SPLIT state among it (document 02, C-18).
+//! Document 01, "State sheets", with a section for each fluid (document 02, C-20): a sheet read line by line,
+//! and what the program `sheet` prints of it, both sides of a SPLIT state among it (C-18).
 
-use crate::state::{reply, Reply, HYDROGEN, ONE, OXYGEN};
+use crate::state::{reply, Fluid, Reply, FLUIDS, ONE};
 
 /// How many bytes a sheet has at most.
 pub const LONGEST: usize = 65_536;
+
+/// How many sections a sheet has, one for each fluid.
+pub const SECTIONS: usize = FLUIDS.len();
 
 /// How many state lines a section has at most.
 pub const LARGEST_COUNT: u64 = 1000;
@@ -12,13 +15,14 @@ pub const LARGEST_COUNT: u64 = 1000;
 /// The largest number that a sheet can hold.
 pub const TEN_NINES: u64 = 9_999_999_999;
 
-/// Document 01's whole input.
+/// Document 01's whole input, with the line that C-20 adds.
 pub const EXAMPLE: &[u8] = b"1
 300000 1000000
 3
 300000 1000000
 120000 500000
 55999 500000
+0
 ";
 
 /// The byte that ends a line.
@@ -40,9 +44,14 @@ pub struct Refusal<'a> {
     pub line: &'a [u8],
 }
 
-/// Every state line, counted from 0 through both sections. The length is looked at first, since 7
-/// comes before 6.
+/// Every state line, counted from 0 through all sections.
 pub fn read(sheet: &[u8]) -> Result<Vec<State>, Refusal<'_>> {
+    read_sections(sheet, &FLUIDS)
+}
+
+/// The same of a sheet with a section for each of these fluids. The length is looked at first, since 7
+/// comes before 6.
+fn read_sections<'a>(sheet: &'a [u8], fluids: &[Fluid]) -> Result<Vec<State>, Refusal<'a>> {
     if sheet.len() > LONGEST {
         return Err(Refusal {
             number: 7,
@@ -52,12 +61,12 @@ pub fn read(sheet: &[u8]) -> Result<Vec<State>, Refusal<'_>> {
     }
     let mut states = Vec::new();
     let mut place = 0;
-    for fluid in [HYDROGEN, OXYGEN] {
+    for fluid in fluids {
         let count = next(sheet, &mut place, count_line)?;
         for _ in 0..count {
             let [millikelvin, pascals] = next(sheet, &mut place, state_line)?;
             states.push(State {
-                fluid,
+                fluid: fluid.number,
                 millikelvin,
                 pascals,
             });
@@ -179,7 +188,8 @@ fn answer(state: &State) -> String {
 mod tests {
     use super::*;
     use crate::random::Random;
-    use crate::state::{side_reply, SideReply, DENSE, GAS};
+    use crate::sheet_list::{full_sheet, WIDEST};
+    use crate::state::{side_reply, SideReply, DENSE, GAS, HYDROGEN, NITROGEN, OXYGEN};
 
     /// The last is 2 to the 64th, which is 0 to whoever does not look at the carry.
     const NO_NUMBERS: [&[u8]; 22] = [
@@ -245,7 +255,7 @@ NO 21
     #[test]
     fn lines_have_what_the_sides_give() {
         let mut split = 0;
-        for (fluid, millikelvin) in [(HYDROGEN, 30_000), (OXYGEN, 140_000)] {
+        for (fluid, millikelvin) in [(HYDROGEN, 30_000), (OXYGEN, 140_000), (NITROGEN, 115_000)] {
             for pascals in (10_000..4_000_000).step_by(50_000) {
                 let [gas, dense] = [GAS, DENSE]
                     .map(|side| side_reply(fluid, millikelvin, pascals, side))
@@ -260,11 +270,11 @@ NO 21
                 assert_eq!(printed, expected);
             }
         }
-        // of 160; the test would say little if either kind were rare
-        assert!((40..120).contains(&split), "{split}");
+        // of 240; the test would say little if either kind were rare
+        assert!((60..180).contains(&split), "{split}");
     }
 
-    /// Lines are counted through both sections and given as written; 16 comes after the last.
+    /// Lines are counted through all sections and given as written; 16 comes after the last.
     #[test]
     fn state_lines_of_the_example() {
         let expected = [
@@ -286,24 +296,27 @@ NO 21
     /// Document 01, "Points worked through".
     #[test]
     fn no_states_and_no_lines() {
-        assert_eq!(read(b"0\n0\n"), Ok(vec![]));
-        assert_eq!(print(b"0\n0\n"), "");
-        assert_eq!(state_at(b"0\n0\n", 0), Err(16));
+        assert_eq!(read(b"0\n0\n0\n"), Ok(vec![]));
+        assert_eq!(print(b"0\n0\n0\n"), "");
+        assert_eq!(state_at(b"0\n0\n0\n", 0), Err(16));
         assert_refused(b"", 0, b"");
     }
 
     /// Neither a state out of range nor a number of ten digits spoils a sheet.
     #[test]
     fn states_out_of_range() {
-        let sheet = b"3\n0 0\n9999999999 1000000\n300000 4295967296\n1\n1000000 50000001\n";
+        let sheet = b"3\n0 0\n9999999999 1000000\n300000 4295967296\n1\n1000000 50000001\n\
+                      2\n63999 10000\n64000 9999\n";
         let expected = vec![
             state(HYDROGEN, 0, 0),
             state(HYDROGEN, TEN_NINES, 1_000_000),
             state(HYDROGEN, 300_000, 4_295_967_296),
             state(OXYGEN, 1_000_000, 50_000_001),
+            state(NITROGEN, 63_999, 10_000),
+            state(NITROGEN, 64_000, 9_999),
         ];
         assert_eq!(read(sheet), Ok(expected));
-        assert_eq!(print(sheet), "NO 21\nNO 22\nNO 32\nNO 32\n");
+        assert_eq!(print(sheet), "NO 21\nNO 22\nNO 32\nNO 32\nNO 21\nNO 31\n");
     }
 
     #[test]
@@ -358,34 +371,40 @@ NO 21
     }
 
     fn assert_malformed_state_line(line: &[u8]) {
-        assert_refused(&[b"2\n5 6\n", line, b"\n0\n"].concat(), 6, line);
-        assert_refused(&[b"0\n1\n", line, b"\n"].concat(), 4, line);
-        assert_refused(&[b"0\n1\n", line].concat(), 4, line);
+        assert_refused(&[b"2\n5 6\n", line, b"\n0\n0\n"].concat(), 6, line);
+        assert_refused(&[b"0\n1\n", line, b"\n0\n"].concat(), 4, line);
+        assert_refused(&[b"0\n0\n1\n", line, b"\n"].concat(), 6, line);
+        assert_refused(&[b"0\n0\n1\n", line].concat(), 6, line);
     }
 
     #[test]
     fn malformed_count_lines() {
         let too_large: [&[u8]; 4] = [b"1001", b"65536", b"4294967296", b"9999999999"];
         for line in [&too_large[..], &NO_NUMBERS, &[b"0 0"]].concat() {
-            assert_refused(&[line, b"\n0\n"].concat(), 0, line);
-            assert_refused(&[b"0\n", line, b"\n"].concat(), 2, line);
-            assert_refused(&[b"0\n", line].concat(), 2, line);
+            assert_refused(&[line, b"\n0\n0\n"].concat(), 0, line);
+            assert_refused(&[b"0\n", line, b"\n0\n"].concat(), 2, line);
+            assert_refused(&[b"0\n0\n", line, b"\n"].concat(), 4, line);
+            assert_refused(&[b"0\n0\n", line].concat(), 4, line);
         }
     }
 
-    /// A count of 1000 is one, in both sections; one of 1001 is not, though every line is there.
+    /// A count of 1000 is one, in every section; one of 1001 is not, though every line is there.
     #[test]
     fn largest_count() {
         let lines = |count| b"0 0\n".repeat(count);
-        let full = [b"1000\n", &lines(1000)[..], b"1000\n", &lines(1000)].concat();
-        assert_eq!(state_lines(&full), 2000);
-        assert_eq!(state_at(&full, 999), Ok(state(HYDROGEN, 0, 0)));
-        assert_eq!(state_at(&full, 1000), Ok(state(OXYGEN, 0, 0)));
-        assert_eq!(state_at(&full, 2000), Err(16));
+        let full = [b"1000\n", &lines(1000)[..]].concat().repeat(3);
+        assert_eq!(state_lines(&full), 3000);
+        for (k, fluid) in [(999, 0), (1000, 1), (1999, 1), (2000, 2), (2999, 2)] {
+            assert_eq!(state_at(&full, k), Ok(state(fluid, 0, 0)));
+        }
+        assert_eq!(state_at(&full, 3000), Err(16));
         let lacking = &full[..full.len() - 4];
         assert_refused(lacking, lacking.len(), b"");
-        assert_refused(&[b"1001\n", &lines(1001)[..], b"0\n"].concat(), 0, b"1001");
-        assert_refused(&[b"0\n1001\n", &lines(1001)[..]].concat(), 2, b"1001");
+        for (before, after) in [("", "0\n0\n"), ("0\n", "0\n"), ("0\n0\n", "")] {
+            let section = [b"1001\n", &lines(1001)[..]].concat();
+            let sheet = [before.as_bytes(), &section, after.as_bytes()].concat();
+            assert_refused(&sheet, before.len(), b"1001");
+        }
     }
 
     /// Where the bytes stop before a wanted line, the place is the length.
@@ -398,6 +417,8 @@ NO 21
             b"1\n300000 1000000\n",
             b"0\n1\n",
             b"0\n2\n120000 500000\n",
+            b"0\n0\n1\n",
+            b"0\n0\n2\n90000 300000\n",
         ] {
             assert_refused(sheet, sheet.len(), b"");
         }
@@ -406,9 +427,10 @@ NO 21
     /// Where another line stands in its stead, that one is the faulty one.
     #[test]
     fn wrong_counts() {
-        assert_refused(b"2\n300000 1000000\n0\n", 17, b"0");
-        assert_refused(b"1\n5 6\n7 8\n0\n", 6, b"7 8");
-        assert_refused(b"0\n1\n5 6\n7 8\n", 8, b"7 8");
+        assert_refused(b"2\n300000 1000000\n0\n0\n", 17, b"0");
+        assert_refused(b"1\n5 6\n7 8\n0\n0\n", 6, b"7 8");
+        assert_refused(b"0\n1\n5 6\n7 8\n0\n", 8, b"7 8");
+        assert_refused(b"0\n0\n1\n5 6\n7 8\n", 10, b"7 8");
     }
 
     /// A line that would be good with its byte 10.
@@ -418,6 +440,8 @@ NO 21
         assert_refused(b"1\n300000 1000000", 2, b"300000 1000000");
         assert_refused(b"0\n0", 2, b"0");
         assert_refused(b"0\n1\n120000 500000", 4, b"120000 500000");
+        assert_refused(b"0\n0\n0", 4, b"0");
+        assert_refused(b"0\n0\n1\n90000 300000", 6, b"90000 300000");
     }
 
     /// The faulty line is the first one after the end, and no more than that one.
@@ -434,7 +458,7 @@ NO 21
             (b"1\n300000 1000000\n", b"1"),
             (&long_line, &long_line),
         ] {
-            assert_refused(&[b"0\n0\n", rest].concat(), 4, line);
+            assert_refused(&[b"0\n0\n0\n", rest].concat(), 6, line);
             let sheet = [EXAMPLE, rest].concat();
             assert_refused(&sheet, EXAMPLE.len(), line);
         }
@@ -443,30 +467,111 @@ NO 21
     /// 7 comes before 6, and one byte fewer is 6.
     #[test]
     fn longest_sheet() {
-        let rest = vec![b'x'; LONGEST - 4];
-        let longest = [b"0\n0\n", &rest[..]].concat();
+        let rest = vec![b'x'; LONGEST - 6];
+        let longest = [b"0\n0\n0\n", &rest[..]].concat();
         assert_eq!(longest.len(), 65_536);
-        assert_refused(&longest, 4, &rest);
-        let too_long = [&longest[..], b"x"].concat();
+        assert_refused(&longest, 6, &rest);
+        assert_too_long(&[&longest[..], b"x"].concat());
+    }
+
+    /// All that is answered about a sheet that is refused with 7.
+    fn assert_too_long(sheet: &[u8]) {
         let expected = Refusal {
             number: 7,
             place: 0,
             line: b"",
         };
-        assert_eq!(read(&too_long), Err(expected));
-        assert_eq!(print(&too_long), "SHEET 7 0\n");
-        assert_eq!(faulty_line(&too_long), b"");
-        assert_eq!(state_lines(&too_long), 0);
-        assert_eq!(state_at(&too_long, 0), Err(7));
+        assert_eq!(read(sheet), Err(expected));
+        assert_eq!(print(sheet), "SHEET 7 0\n");
+        assert_eq!(faulty_line(sheet), b"");
+        assert_eq!(state_lines(sheet), 0);
+        assert_eq!(state_at(sheet, 0), Err(7));
+    }
+
+    // Document 02, C-20.
+
+    /// Three full sections: the widest lines are too many bytes, and the longest good sheet has exactly as
+    /// many as a sheet may have.
+    #[test]
+    fn three_full_sections() {
+        let widest = b"9999999999 9999999999\n".repeat(1000);
+        let widest = [b"1000\n", &widest[..]].concat().repeat(3);
+        assert_eq!(widest.len(), 66_015);
+        assert_eq!(full_sheet(WIDEST), widest);
+        assert_too_long(&widest);
+        let longest = full_sheet(65_536);
+        assert_eq!(longest.len(), 65_536);
+        assert_eq!(state_lines(&longest), 3000);
+        assert_eq!(
+            state_at(&longest, 2999),
+            Ok(state(NITROGEN, TEN_NINES, TEN_NINES))
+        );
+        assert_eq!(written(&read(&longest).expect("a good sheet")), longest);
+        let longer = full_sheet(65_537);
+        assert_eq!(longer.len(), 65_537);
+        assert_too_long(&longer);
+        assert_too_long(&[&longest[..], b"\n"].concat());
+        // two full sections of the widest lines leave room, and it is the third count that is missing
+        let two = &widest[..44_010];
+        assert_refused(two, 44_010, b"");
+    }
+
+    /// Document 01's two good sheets as they were lack the third count.
+    #[test]
+    fn two_sections() {
+        assert_refused(b"0\n0\n", 4, b"");
+        let example = EXAMPLE.strip_suffix(b"0\n").expect("the third count");
+        assert_refused(example, example.len(), b"");
+    }
+
+    /// What follows the third section is refused at its first byte, the count of a fourth too.
+    #[test]
+    fn four_sections() {
+        assert_refused(b"0\n0\n0\n0\n", 6, b"0");
+        assert_refused(b"0\n0\n1\n90000 300000\n1\n90000 300000\n", 19, b"1");
+        let sheet = [EXAMPLE, b"0\n"].concat();
+        assert_refused(&sheet, EXAMPLE.len(), b"0");
+    }
+
+    /// The fluids of document 01, which are a sheet's sections there.
+    const BEFORE: &[Fluid] = FLUIDS.split_at(2).0;
+
+    /// A reader from before C-20 refuses every good sheet at its third count, where it wants nothing more;
+    /// and a sheet from before lacks that count.
+    #[test]
+    fn readers_and_sheets_from_before() {
+        let mut random = Random(20);
+        for _ in 0..1000 {
+            let states = random_states(&mut random);
+            let sheet = written(&states);
+            let sheet_before = written_sections(&states, BEFORE);
+            let (nitrogen, others): (Vec<State>, Vec<State>) = states
+                .into_iter()
+                .partition(|state| state.fluid == NITROGEN);
+            let third_count = nitrogen.len().to_string();
+            let expected = Refusal {
+                number: 6,
+                place: sheet_before.len(),
+                line: third_count.as_bytes(),
+            };
+            assert_eq!(read_sections(&sheet, BEFORE), Err(expected));
+            assert_eq!(read_sections(&sheet_before, BEFORE), Ok(others));
+            assert_refused(&sheet_before, sheet_before.len(), b"");
+        }
     }
 
     // The same answers found the other way round, by writing.
 
-    /// The sheet of these states, hydrogen's before oxygen's.
+    /// The sheet of these states.
     fn written(states: &[State]) -> Vec<u8> {
+        written_sections(states, &FLUIDS)
+    }
+
+    /// The sections of these fluids, each with its own states.
+    fn written_sections(states: &[State], fluids: &[Fluid]) -> Vec<u8> {
         let mut text = String::new();
-        for fluid in [HYDROGEN, OXYGEN] {
-            let section = states.iter().filter(|state| state.fluid == fluid);
+        for fluid in fluids {
+            let section = states.iter().filter(|state| state.fluid == fluid.number);
             text += &format!("{}\n", section.clone().count());
             for state in section {
                 text += &format!("{} {}\n", state.millikelvin, state.pascals);
@@ -487,9 +592,9 @@ NO 21
             number.filter(|&number| number <= most)
         };
         let mut states = Vec::new();
-        for fluid in [HYDROGEN, OXYGEN] {
+        for fluid in FLUIDS {
             for _ in 0..up_to(1000)? {
-                states.push(state(fluid, up_to(TEN_NINES)?, up_to(TEN_NINES)?));
+                states.push(state(fluid.number, up_to(TEN_NINES)?, up_to(TEN_NINES)?));
             }
         }
         Some(written(&states))
@@ -527,7 +632,7 @@ NO 21
     }
 
     fn random_states(random: &mut Random) -> Vec<State> {
-        let fluids = [HYDROGEN, OXYGEN].map(|fluid| vec![fluid; random.number() as usize % 5]);
+        let fluids = FLUIDS.map(|fluid| vec![fluid.number; random.number() as usize % 4]);
         let states = fluids.concat().into_iter().map(|fluid| {
             let [millikelvin, pascals] = [TEN_NINES; 2].map(|most| random.magnitude(most));
             state(fluid, millikelvin, pascals)
@@ -575,19 +680,24 @@ NO 21
         assert!((10_000..40_000).contains(&good), "{good}");
     }
 
-    /// Every sheet of up to eight of the bytes that a sheet is made of, two digits of the ten.
+    /// Every text of up to eight of the bytes that a sheet is made of, two digits of the ten: alone, behind an
+    /// empty section, and before one.
     #[test]
     fn short_sheets() {
-        let mut good = 0;
+        let mut good = [0; 3];
         for length in 0..=8 {
             for which in 0..4_usize.pow(length) {
-                let sheet: Vec<u8> = (0..length)
+                let text: Vec<u8> = (0..length)
                     .map(|place| b"01 \n"[which / 4_usize.pow(place) % 4])
                     .collect();
-                good += u64::from(assert_same_by_writing(&sheet));
+                let [behind, before] = [[b"0\n", &text[..]].concat(), [&text[..], b"0\n"].concat()];
+                for (sheet, good) in [text, behind, before].iter().zip(&mut good) {
+                    *good += u64::from(assert_same_by_writing(sheet));
+                }
             }
         }
-        // no state, or one of either fluid, each of its numbers 0 or 1
-        assert_eq!(good, 1 + 4 + 4);
+        // no state, or one of the fluids whose lines are in the text, each of its numbers 0 or 1; before the
+        // empty section also nitrogen's with that section's 0 as its pressure
+        assert_eq!(good, [1, 1 + 4 + 4, 1 + 4 + 4 + 2]);
     }
 }

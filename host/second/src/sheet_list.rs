@@ -1,13 +1,17 @@
 //! Sheets for a comparison, good and damaged, the same ones in every run.
 
 use crate::random::Random;
-use crate::sheet::{EXAMPLE, TEN_NINES};
-use crate::state::{COLDEST, HIGHEST_PRESSURE, HOTTEST, LOWEST_PRESSURE};
+use crate::sheet::{EXAMPLE, LARGEST_COUNT, SECTIONS, TEN_NINES};
+use crate::state::{Fluid, FLUIDS, HIGHEST_PRESSURE, HOTTEST, LOWEST_PRESSURE};
 use std::collections::HashSet;
 
 /// How many bytes the list of the program `sheet_points` has at most, a byte after each sheet counted.
 /// It is read into a buffer of 65,536 bytes, and much room is left there.
 pub const LARGEST_LIST: usize = 40_000;
+
+/// How many bytes a sheet of full sections has if all its lines are the widest: more than a sheet may have.
+pub const WIDEST: usize =
+    SECTIONS * ("1000\n".len() + LARGEST_COUNT as usize * "9999999999 9999999999\n".len());
 
 /// The least and the greatest bytes, blanks, digits, and the neighbours of the digits.
 const BYTES: [u8; 11] = [0, 9, 10, 13, 32, 47, 48, 49, 57, 58, 255];
@@ -16,22 +20,20 @@ const BYTES: [u8; 11] = [0, 9, 10, 13, 32, 47, 48, 49, 57, 58, 255];
 const ALPHABET: &[u8] = b"019 \n";
 
 /// Good sheets to be damaged everywhere, in every way.
-pub const SMALL: [&[u8]; 3] = [b"0\n0\n", b"1\n0 0\n0\n", b"0\n1\n1 9\n"];
+pub const SMALL: [&[u8]; 3] = [b"0\n0\n0\n", b"1\n0 0\n0\n0\n", b"0\n0\n1\n1 9\n"];
 
 /// Good sheets to be damaged everywhere, with new bytes at the end alone.
-pub const LARGER: [&[u8]; 3] = [
-    b"1\n10 9\n1\n0 99\n",
-    b"1\n1000000000 0\n0\n",
-    b"0\n1\n9 9999999999\n",
-];
+pub const LARGER: [&[u8]; 2] = [b"1\n10 9\n1\n0 99\n1\n9 0\n", b"0\n0\n1\n9 9999999999\n"];
 
 /// Numbers that a sheet can hold: the ends of the ranges with what lies past them, the ends of what 8,
 /// 16, 31, 32 and 33 bits can hold, every digit, and what is in range for whoever keeps 32 bits.
-const NUMBERS: [u64; 28] = [
+const NUMBERS: [u64; 30] = [
     13_999,
     14_000,
     55_999,
     56_000,
+    63_999,
+    64_000,
     1_000_000,
     1_000_001,
     9_999,
@@ -141,49 +143,65 @@ const COUNTS: [u64; 38] = [
 /// Sheets with a fault that more than one byte makes.
 const OTHERS: &[&[u8]] = &[
     // lines that end as elsewhere
-    b"0\r\n0\r\n",
-    b"0\r0\r",
-    b"0\n\r0\n\r",
-    b"1\r\n0 1\r\n0\r\n",
-    b"0\n0\r\n",
+    b"0\r\n0\r\n0\r\n",
+    b"0\r0\r0\r",
+    b"0\n\r0\n\r0\n\r",
+    b"1\r\n0 1\r\n0\r\n0\r\n",
+    b"0\n0\n0\r\n",
     // an empty line before, between and after
-    b"\n0\n0\n",
-    b"1\n\n9 9\n0\n",
-    b"1\n9 9\n\n0\n",
-    b"0\n\n1\n9 9\n",
-    b"0\n1\n9 9\n\n",
+    b"\n0\n0\n0\n",
+    b"1\n\n9 9\n0\n0\n",
+    b"1\n9 9\n\n0\n0\n",
+    b"0\n\n1\n9 9\n0\n",
+    b"0\n1\n9 9\n\n0\n",
+    b"0\n0\n\n1\n9 9\n",
+    b"0\n0\n1\n9 9\n\n",
     // a mark of the order of the bytes, which some editors write first
-    b"\xEF\xBB\xBF0\n0\n",
+    b"\xEF\xBB\xBF0\n0\n0\n",
     // all in one line, or a number in each
-    b"0 0\n",
-    b"0 1 9 9\n",
-    b"1 9 9\n0\n",
-    b"1\n9\n9\n0\n",
-    b"0\n1\n9\n9\n",
+    b"0 0 0\n",
+    b"0 0\n0\n",
+    b"0\n0 0\n",
+    b"0 0 1 9 9\n",
+    b"1 9 9\n0\n0\n",
+    b"1\n9\n9\n0\n0\n",
+    b"0\n1\n9\n9\n0\n",
+    b"0\n0\n1\n9\n9\n",
     // two states in one line
-    b"2\n0 1 9 0\n0\n",
-    b"0\n2\n0 1 9 0\n",
-    b"0\n1\n0 1 9\n",
-    // the count behind its state lines, and one section or three
-    b"9 9\n1\n0\n",
-    b"0\n9 9\n1\n",
+    b"2\n0 1 9 0\n0\n0\n",
+    b"0\n2\n0 1 9 0\n0\n",
+    b"0\n0\n2\n0 1 9 0\n",
+    b"0\n0\n1\n0 1 9\n",
+    // the count behind its state lines
+    b"9 9\n1\n0\n0\n",
+    b"0\n9 9\n1\n0\n",
+    b"0\n0\n9 9\n1\n",
+    // one section, two or four
     b"1\n9 9\n",
     b"2\n9 9\n0 1\n",
-    b"0\n0\n0\n",
-    b"0\n0\n1\n9 9\n",
-    b"1\n0 1\n0\n9 9\n",
+    b"0\n0\n",
+    b"1\n9 9\n0\n",
+    b"0\n1\n9 9\n",
+    b"1\n9 9\n1\n0 1\n",
+    b"0\n0\n0\n0\n",
+    b"0\n0\n0\n1\n9 9\n",
+    b"0\n0\n1\n0 1\n1\n9 9\n",
+    b"1\n0 1\n0\n0\n9 9\n",
     // a count too small, and one too large
-    b"1\n0 1\n9 9\n0\n",
-    b"3\n0 1\n9 9\n0\n",
-    b"0\n1\n0 1\n9 9\n",
-    b"0\n3\n0 1\n9 9\n",
+    b"1\n0 1\n9 9\n0\n0\n",
+    b"3\n0 1\n9 9\n0\n0\n",
+    b"0\n1\n0 1\n9 9\n0\n",
+    b"0\n3\n0 1\n9 9\n0\n",
+    b"0\n0\n1\n0 1\n9 9\n",
+    b"0\n0\n3\n0 1\n9 9\n",
     // faults in two lines, of which the first counts
-    b"00\n00\n",
-    b"1\n00 0\n00\n",
-    b"2\n0 0\n0  0\n1001\n",
+    b"00\n00\n00\n",
+    b"1\n00 0\n00\n0\n",
+    b"2\n0 0\n0  0\n1001\n0\n",
     b"1001\n0 0",
     b"0\n1001",
-    b"0\n1\n0 0 \n\n",
+    b"0\n0\n1001",
+    b"0\n0\n1\n0 0 \n\n",
 ];
 
 /// The sheets, each once.
@@ -232,39 +250,57 @@ pub fn list() -> Vec<Vec<u8>> {
 /// Document 01's three.
 fn worked_points(list: &mut List) {
     list.sheet(EXAMPLE);
-    list.sheet(b"0\n0\n");
+    list.sheet(b"0\n0\n0\n");
     list.sheet(b"");
 }
 
-/// Good sheets of up to six state lines, for every pair of counts one with numbers of all magnitudes
-/// and one with states in range.
+/// Good sheets of up to four state lines, for every combination of counts one with numbers of all
+/// magnitudes and one with states in range.
 pub fn distributions(list: &mut List, random: &mut Random) {
-    for total in 0..=6 {
-        for hydrogen in 0..=total {
-            let counts = [hydrogen, total - hydrogen];
-            list.sheet(&written(counts, |_| {
-                [TEN_NINES; 2].map(|most| random.magnitude(most))
-            }));
-            list.sheet(&written(counts, |coldest| {
-                let millikelvin = coldest + random.magnitude(HOTTEST - coldest);
-                let above_lowest = random.magnitude(HIGHEST_PRESSURE - LOWEST_PRESSURE);
-                [millikelvin, LOWEST_PRESSURE + above_lowest]
-            }));
-        }
+    for counts in combinations(4) {
+        list.sheet(&written(counts, |_| {
+            [TEN_NINES; 2].map(|most| random.magnitude(most))
+        }));
+        list.sheet(&written(counts, |fluid| {
+            let millikelvin = fluid.coldest + random.magnitude(HOTTEST - fluid.coldest);
+            let above_lowest = random.magnitude(HIGHEST_PRESSURE - LOWEST_PRESSURE);
+            [millikelvin, LOWEST_PRESSURE + above_lowest]
+        }));
     }
 }
 
-/// The good sheet of these counts. A state is chosen by the lowest temperature of its section.
-pub fn written(counts: [u64; 2], mut state: impl FnMut(u64) -> [u64; 2]) -> Vec<u8> {
+/// All counts of the sections whose sum is not above this.
+fn combinations(most: u64) -> impl Iterator<Item = [u64; SECTIONS]> {
+    let each = most + 1;
+    let all = (0..each.pow(SECTIONS as u32))
+        .map(move |which| std::array::from_fn(|section| which / each.pow(section as u32) % each));
+    all.filter(move |counts: &[u64; SECTIONS]| counts.iter().sum::<u64>() <= most)
+}
+
+/// The sheet of these counts. A state is chosen by the fluid of its section.
+pub fn written(counts: [u64; SECTIONS], mut state: impl FnMut(Fluid) -> [u64; 2]) -> Vec<u8> {
     let mut text = String::new();
-    for (coldest, count) in COLDEST.into_iter().zip(counts) {
+    for (fluid, count) in FLUIDS.into_iter().zip(counts) {
         text += &format!("{count}\n");
         for _ in 0..count {
-            let [millikelvin, pascals] = state(coldest);
+            let [millikelvin, pascals] = state(fluid);
             text += &format!("{millikelvin} {pascals}\n");
         }
     }
     text.into()
+}
+
+/// A sheet of full sections in so many bytes, which is good unless they are too many: all its lines are the
+/// widest but for the first few, whose numbers have fewer digits.
+pub fn full_sheet(bytes: usize) -> Vec<u8> {
+    let mut too_many = (WIDEST - bytes) as u32;
+    written([LARGEST_COUNT; SECTIONS], |_| {
+        [TEN_NINES; 2].map(|number| {
+            let taken = too_many.min(9);
+            too_many -= taken;
+            number / 10_u64.pow(taken)
+        })
+    })
 }
 
 /// Numbers at every place of a state, the least and the greatest of each length among them.
@@ -284,28 +320,32 @@ fn numbers(list: &mut List) {
 /// Texts that are no numbers, as counts and at every place of a state.
 fn no_numbers(list: &mut List) {
     for text in NO_NUMBERS {
-        list.sheet(&[text, b"\n0\n"].concat());
-        list.sheet(&[b"0\n", text, b"\n"].concat());
+        in_each_section(list, &[text, b"\n"].concat());
         in_each_state(list, text);
     }
 }
 
-/// The text as the temperature and as the pressure of either fluid.
+/// The text as the temperature and as the pressure of each fluid.
 fn in_each_state(list: &mut List, text: &[u8]) {
-    list.sheet(&[b"1\n", text, b" 0\n0\n"].concat());
-    list.sheet(&[b"1\n1 ", text, b"\n0\n"].concat());
-    list.sheet(&[b"0\n1\n", text, b" 9\n"].concat());
-    list.sheet(&[b"0\n1\n0 ", text, b"\n"].concat());
+    in_each_section(list, &[b"1\n", text, b" 9\n"].concat());
+    in_each_section(list, &[b"1\n0 ", text, b"\n"].concat());
 }
 
-/// Counts of either section, before fewer lines than they say, save the first few.
+/// These lines as each section, where the others are empty.
+fn in_each_section(list: &mut List, lines: &[u8]) {
+    for section in 0..SECTIONS {
+        let [before, after] =
+            [section, SECTIONS - 1 - section].map(|sections| b"0\n".repeat(sections));
+        list.sheet(&[&before, lines, &after].concat());
+    }
+}
+
+/// Counts of each section, before fewer lines than they say, save the first few.
 fn counts(list: &mut List) {
     for count in COUNTS {
         list.sheet(format!("{count}\n").as_bytes());
-        list.sheet(format!("{count}\n0\n").as_bytes());
-        list.sheet(format!("{count}\n1 9\n0\n").as_bytes());
-        list.sheet(format!("0\n{count}\n").as_bytes());
-        list.sheet(format!("0\n{count}\n9 1\n").as_bytes());
+        in_each_section(list, format!("{count}\n").as_bytes());
+        in_each_section(list, format!("{count}\n1 9\n").as_bytes());
     }
     for count in [999, 1000, 1001] {
         list.sheet(format!("{count}").as_bytes());
@@ -313,20 +353,23 @@ fn counts(list: &mut List) {
         list.sheet(format!("0{count}\n").as_bytes());
         list.sheet(format!("{count}\n{count}\n").as_bytes());
         list.sheet(format!("{count}\n1 9\n0 0").as_bytes());
-        list.sheet(format!("{count}\n1 9\n0 0\n9\n0\n").as_bytes());
-        list.sheet(format!("1\n0 0\n{count}").as_bytes());
-        list.sheet(format!("1\n0 0\n{count}\n").as_bytes());
-        list.sheet(format!("1\n0 0\n{count}\n1 9\n00 0\n").as_bytes());
+        list.sheet(format!("{count}\n1 9\n0 0\n9\n0\n0\n").as_bytes());
+        for before in ["1\n0 0\n", "0\n1\n0 0\n"] {
+            list.sheet(format!("{before}{count}").as_bytes());
+            list.sheet(format!("{before}{count}\n").as_bytes());
+            list.sheet(format!("{before}{count}\n1 9\n00 0\n").as_bytes());
+        }
     }
 }
 
 /// Counts of two digits that are met, and one of four digits that is not, after many lines.
 fn many_lines(list: &mut List) {
     let lines = |count| "0 1\n".repeat(count);
-    list.sheet(format!("10\n{}0\n", lines(10)).as_bytes());
-    list.sheet(format!("0\n11\n{}", lines(11)).as_bytes());
-    list.sheet(format!("0\n11\n{}", lines(12)).as_bytes());
-    list.sheet(format!("0\n1000\n{}", lines(97)).as_bytes());
+    list.sheet(format!("10\n{}0\n0\n", lines(10)).as_bytes());
+    list.sheet(format!("0\n11\n{}0\n", lines(11)).as_bytes());
+    list.sheet(format!("0\n0\n11\n{}", lines(11)).as_bytes());
+    list.sheet(format!("0\n0\n11\n{}", lines(12)).as_bytes());
+    list.sheet(format!("0\n0\n1000\n{}", lines(97)).as_bytes());
 }
 
 fn damages(list: &mut List) {
@@ -389,13 +432,13 @@ fn every_short_text(list: &mut List) {
     }
 }
 
-/// Two to six lines, each good somewhere.
+/// Three to seven lines, each good somewhere.
 pub fn lines_in_any_order(list: &mut List, random: &mut Random, sheets: usize) {
     let lines: [&[u8]; 8] = [
         b"0\n", b"0\n", b"1\n", b"1\n", b"2\n", b"0 1\n", b"9 0\n", b"1 10\n",
     ];
     for _ in 0..sheets {
-        let count = 2 + random.number() % 5;
+        let count = 3 + random.number() % 5;
         let chosen = (0..count).map(|_| one_of(&lines, random));
         list.sheet(&chosen.collect::<Vec<_>>().concat());
     }
@@ -404,7 +447,15 @@ pub fn lines_in_any_order(list: &mut List, random: &mut Random, sheets: usize) {
 /// Texts over the alphabet, some of them behind lines that are good there, until the list has so many
 /// bytes.
 pub fn any_text(list: &mut List, random: &mut Random, bytes: usize) {
-    let before: [&[u8]; 6] = [b"", b"0\n", b"1\n", b"0\n1\n", b"1\n9 1\n", b"2\n0 0\n"];
+    let before: [&[u8]; 7] = [
+        b"",
+        b"0\n",
+        b"1\n",
+        b"0\n0\n",
+        b"0\n0\n1\n",
+        b"0\n1\n9 1\n",
+        b"2\n0 0\n",
+    ];
     while list.bytes < bytes {
         let length = 2 + random.number() % 9;
         let text: Vec<u8> = (0..length).map(|_| one_of(ALPHABET, random)).collect();

@@ -1,11 +1,60 @@
 //! Document 01, "Replies" to "The book of starting points", with the finer refusals, the gas constant, the
-//! named side and the book in bytes of document 02 (C-12, C-16, C-18 and C-19): the reply to a state, as
-//! the papers write it. Every product has 128 bits, so that none needs a thought.
+//! named side, the book in bytes and nitrogen of document 02 (C-12, C-16, C-18, C-19 and C-20): the reply
+//! to a state, as the papers write it. Every product has 128 bits, so that none needs a thought.
 
 use crate::cubic::crossings;
 
 pub const HYDROGEN: u64 = 0;
 pub const OXYGEN: u64 = 1;
+pub const NITROGEN: u64 = 2;
+
+/// In hundred-thousandths. Its critical constants are worked out with it too.
+const MOLAR_MASS_OF_HYDROGEN: u128 = 201_594;
+
+/// What the papers say of a fluid.
+#[derive(Clone, Copy)]
+pub struct Fluid {
+    pub number: u64,
+    pub name: &'static str,
+    /// The lowest millikelvin, which is in range.
+    pub coldest: u64,
+    /// In hundred-thousandths.
+    molar_mass: u128,
+    /// At a temperature in millikelvin.
+    critical: fn(u64) -> Critical,
+}
+
+/// All fluids, in the order of their numbers, which is that of a sheet's sections. Nitrogen's figures are
+/// those of Table 2 of source document 000.
+pub const FLUIDS: [Fluid; 3] = [
+    Fluid {
+        number: HYDROGEN,
+        name: "hydrogen",
+        coldest: 14_000,
+        molar_mass: MOLAR_MASS_OF_HYDROGEN,
+        critical: critical_of_hydrogen,
+    },
+    Fluid {
+        number: OXYGEN,
+        name: "oxygen",
+        coldest: 56_000,
+        molar_mass: 3_199_880,
+        critical: |_| Critical {
+            millikelvin: 154_576,
+            pascals: 5_042_000,
+        },
+    },
+    Fluid {
+        number: NITROGEN,
+        name: "nitrogen",
+        coldest: 64_000,
+        molar_mass: 2_801_340,
+        critical: |_| Critical {
+            millikelvin: 126_192,
+            pascals: 3_395_800,
+        },
+    },
+];
 
 /// The two kinds. A refused state has none, which is 0.
 pub const ONE: u64 = 1;
@@ -15,15 +64,11 @@ pub const SPLIT: u64 = 2;
 pub const GAS: u64 = 0;
 pub const DENSE: u64 = 1;
 
-/// The ends of the ranges, which are in range: the lowest millikelvin of each fluid, the highest of both,
-/// and the pascals.
-pub const COLDEST: [u64; 2] = [14_000, 56_000];
+/// The ends of the ranges that all fluids share, which are in range: the highest millikelvin, and the
+/// pascals.
 pub const HOTTEST: u64 = 1_000_000;
 pub const LOWEST_PRESSURE: u64 = 10_000;
 pub const HIGHEST_PRESSURE: u64 = 50_000_000;
-
-/// Of each fluid, in hundred-thousandths.
-const MOLAR_MASS: [u128; 2] = [201_594, 3_199_880];
 
 /// In millionths of a J/(kmol K).
 const GAS_CONSTANT: u128 = 8_314_462_618;
@@ -89,15 +134,24 @@ pub struct Reduced {
     pub b: u64,
 }
 
-/// Oxygen's critical constants are constants; hydrogen's depend on the temperature.
+/// None where no fluid has the number.
+fn fluid_of_number(number: u64) -> Option<Fluid> {
+    FLUIDS.into_iter().find(|fluid| fluid.number == number)
+}
+
+/// Of a number that is a fluid's.
+fn known(number: u64) -> Fluid {
+    fluid_of_number(number).expect("the number of a fluid")
+}
+
+/// The critical constants of a fluid, by its number.
 pub fn critical(fluid: u64, millikelvin: u64) -> Critical {
-    if fluid == OXYGEN {
-        return Critical {
-            millikelvin: 154_576,
-            pascals: 5_042_000,
-        };
-    }
-    let m = MOLAR_MASS[HYDROGEN as usize] * u128::from(millikelvin);
+    (known(fluid).critical)(millikelvin)
+}
+
+/// Hydrogen's critical constants depend on the temperature; the others' are constants.
+fn critical_of_hydrogen(millikelvin: u64) -> Critical {
+    let m = MOLAR_MASS_OF_HYDROGEN * u128::from(millikelvin);
     Critical {
         millikelvin: narrow(43_600 * m / (m + 2_180_000_000)),
         pascals: narrow(2_046_765 * m / (m + 4_420_000_000)),
@@ -133,16 +187,16 @@ fn largest_with_square_up_to(limit: u128) -> u128 {
 /// M x N is the molar mass in hundred-thousandths; the gas constant's millionths bring a million more.
 pub fn density(fluid: u64, millikelvin: u64, pascals: u64, root: u64) -> u64 {
     let [millikelvin, pascals, root] = [millikelvin, pascals, root].map(u128::from);
-    let top = pascals * MOLAR_MASS[fluid as usize] * 1_000_000 * 1_000_000;
+    let top = pascals * known(fluid).molar_mass * 1_000_000 * 1_000_000;
     narrow(top / (GAS_CONSTANT * root * millikelvin))
 }
 
 /// The reply to a call without a book.
 pub fn reply(fluid: u64, millikelvin: u64, pascals: u64) -> Reply {
-    if ![HYDROGEN, OXYGEN].contains(&fluid) {
+    let Some(Fluid { coldest, .. }) = fluid_of_number(fluid) else {
         return refused(1);
-    }
-    if millikelvin < COLDEST[fluid as usize] {
+    };
+    if millikelvin < coldest {
         return refused(21);
     }
     if millikelvin > HOTTEST {
@@ -381,6 +435,8 @@ mod tests {
             (HYDROGEN, 25_329, 397_317, 60_688),
             (OXYGEN, 121_784, 3_611_541, 952_596),
             (OXYGEN, 107_132, 37_618, 1_055_762),
+            (NITROGEN, 100_277, 928_044, 667_558),
+            (NITROGEN, 74_011, 42_902, 838_218),
         ];
         for (fluid, millikelvin, pascals, grams) in states {
             let Reply {
@@ -389,19 +445,23 @@ mod tests {
                 ..
             } = reply(fluid, millikelvin, pascals);
             assert_eq!(dense_density, grams);
-            let whole = MOLAR_MASS[fluid as usize] * 1_000_000_000_000 / GAS_CONSTANT;
+            let whole = known(fluid).molar_mass * 1_000_000_000_000 / GAS_CONSTANT;
             let without = narrow(whole) * pascals / (dense_root * millikelvin);
             assert_eq!(without, grams - 1);
         }
     }
 
-    /// Document 02, C-16, beside document 01's own formulas.
+    /// Document 02, C-16, beside document 01's own formulas and the one that is nitrogen's by their rule.
     #[test]
     fn never_above_the_density_with_8314() {
-        let before = [100_797 * 1_000_000, 159_994 * 10_000_000];
+        let before = [
+            100_797 * 1_000_000,
+            159_994 * 10_000_000,
+            140_067 * 10_000_000,
+        ];
         let mut random = Random(16);
         for _ in 0..100_000 {
-            let fluid = random.number() % 2;
+            let fluid = random.number() % 3;
             let [millikelvin, pascals, root] =
                 [HOTTEST, HIGHEST_PRESSURE, 1_100_000].map(|most| random.magnitude(most).max(1));
             let [t, p, z] = [millikelvin, pascals, root].map(u128::from);
@@ -416,8 +476,100 @@ mod tests {
         assert_eq!(reply(OXYGEN, 56_000, 9_999), refused(31));
         assert_eq!(reply(OXYGEN, 56_000, 10_000).number, 0);
         assert_eq!(reply(OXYGEN, 56_000, 50_000_000).number, 0);
-        assert_eq!(reply(2, 0, 0), refused(1));
+        assert_eq!(reply(3, 0, 0), refused(1));
     }
+
+    // Document 02, C-20.
+
+    #[test]
+    fn nitrogen_at_300_kelvin() {
+        let expected = [23_773, 294_481, 15_418, 1444, 1073];
+        assert_eq!(coefficients(NITROGEN, 300_000, 1_000_000), expected);
+        assert_eq!(reply(NITROGEN, 300_000, 1_000_000), one(99_654, 11_269));
+    }
+
+    #[test]
+    fn nitrogen_at_90_kelvin() {
+        let expected = [7131, 88_344, 8444, 8795, 1073];
+        assert_eq!(coefficients(NITROGEN, 90_000, 300_000), expected);
+        assert_eq!(g(8795, 1073, 1518), -186_053_590);
+        assert_eq!(g(8795, 1073, 1519), 288_212_608);
+        assert_eq!(g(8795, 1073, 91_704), -1_693_692_952);
+        assert_eq!(g(8795, 1073, 91_705), 5_965_601_680);
+        let expected = Reply {
+            number: 0,
+            kind: SPLIT,
+            gas_root: 91_704,
+            dense_root: 1518,
+            gas_density: 12_246,
+            dense_density: 739_841,
+        };
+        assert_eq!(reply(NITROGEN, 90_000, 300_000), expected);
+    }
+
+    /// Both ends of each range, and one past each.
+    #[test]
+    fn nitrogen_at_the_ends() {
+        let split = Reply {
+            number: 0,
+            kind: SPLIT,
+            gas_root: 99_359,
+            dense_root: 59,
+            gas_density: 529,
+            dense_density: 892_276,
+        };
+        assert_eq!(reply(NITROGEN, 64_000, 10_000), split);
+        let answered = [
+            (64_000, 50_000_000, one(282_014, 933_363)),
+            (1_000_000, 10_000, one(100_003, 33)),
+            (1_000_000, 50_000_000, one(113_744, 148_106)),
+        ];
+        for (millikelvin, pascals, expected) in answered {
+            assert_eq!(reply(NITROGEN, millikelvin, pascals), expected);
+        }
+        for pascals in [10_000, 50_000_000] {
+            assert_eq!(reply(NITROGEN, 63_999, pascals), refused(21));
+            assert_eq!(reply(NITROGEN, 1_000_001, pascals), refused(22));
+        }
+        for millikelvin in [64_000, 1_000_000] {
+            assert_eq!(reply(NITROGEN, millikelvin, 9_999), refused(31));
+            assert_eq!(reply(NITROGEN, millikelvin, 50_000_001), refused(32));
+        }
+    }
+
+    /// Its critical constants are the same at every temperature, and there is the cubic of every fluid's
+    /// critical point: 0.42748 and 0.08664 themselves.
+    #[test]
+    fn nitrogen_at_its_critical_point() {
+        for millikelvin in [64_000, 126_192, 1_000_000] {
+            let expected = Critical {
+                millikelvin: 126_192,
+                pascals: 3_395_800,
+            };
+            assert_eq!(critical(NITROGEN, millikelvin), expected);
+        }
+        let expected = [10_000, 1_000_000, 10_000, 42_748, 8664];
+        assert_eq!(coefficients(NITROGEN, 126_192, 3_395_800), expected);
+        assert_eq!(coefficients(OXYGEN, 154_576, 5_042_000), expected);
+    }
+
+    /// A fluid above 2 is none, be it 0, 1 or 2 to whoever keeps 8 or 32 bits, and each fluid's number is
+    /// its place, as a sheet's sections have it.
+    #[test]
+    fn numbers_of_the_fluids() {
+        let numbers = FLUIDS.map(|fluid| fluid.number);
+        assert_eq!(numbers, [HYDROGEN, OXYGEN, NITROGEN]);
+        assert_eq!(numbers, [0, 1, 2]);
+        for past in [3, 4, 1 << 8, 1 << 32] {
+            for fluid in [past, past + 1, past + 2] {
+                assert_eq!(reply(fluid, 300_000, 1_000_000), refused(1));
+            }
+        }
+        assert_eq!(reply(u64::MAX, 300_000, 1_000_000), refused(1));
+    }
+
+    /// The lowest temperature of each fluid, as the papers have it.
+    const COLDEST: [(u64, u64); 3] = [(HYDROGEN, 14_000), (OXYGEN, 56_000), (NITROGEN, 64_000)];
 
     /// One below, at and one above each end of a range, with every such value of the other number and
     /// with a good, a low and a high one; a temperature out of range is told before a pressure.
@@ -434,7 +586,7 @@ mod tests {
             (50_000_001, 32),
             (u64::MAX, 32),
         ];
-        for (fluid, coldest) in [(HYDROGEN, 14_000), (OXYGEN, 56_000)] {
+        for (fluid, coldest) in COLDEST {
             let temperatures = [
                 (0, 21),
                 (coldest - 1, 21),
@@ -451,7 +603,7 @@ mod tests {
                     let expected = [by_temperature, by_pressure].into_iter().find(|&n| n != 0);
                     let number = reply(fluid, millikelvin, pascals).number;
                     assert_eq!(number, expected.unwrap_or(0));
-                    assert_eq!(reply(2, millikelvin, pascals), refused(1));
+                    assert_eq!(reply(3, millikelvin, pascals), refused(1));
                 }
             }
         }
@@ -464,7 +616,7 @@ mod tests {
         let mut call = |fluid, millikelvin, pascals| {
             reply_with_book(fluid, millikelvin, pascals, 64, &mut book)
         };
-        assert_eq!(call(2, 0, 0), refused(1));
+        assert_eq!(call(3, 0, 0), refused(1));
         assert_eq!(call(OXYGEN, 0, 0), refused(21));
         assert_eq!(call(OXYGEN, u64::MAX, 0), refused(22));
         assert_eq!(call(OXYGEN, 300_000, 0), refused(31));
@@ -501,6 +653,7 @@ mod tests {
                 (OXYGEN, 300_000, 1_000_000, one_side(99_286, 12_920)),
                 (HYDROGEN, 300_000, 1_000_000, one_side(100_474, 804)),
                 (HYDROGEN, 1_000_000, 10_000, one_side(100_001, 2)),
+                (NITROGEN, 300_000, 1_000_000, one_side(99_654, 11_269)),
             ] {
                 assert_eq!(side_reply(fluid, millikelvin, pascals, side), expected);
             }
@@ -513,9 +666,8 @@ mod tests {
         let mut random = Random(18);
         let mut split = 0;
         for _ in 0..1000 {
-            let fluid = random.number() % 2;
-            let coldest = COLDEST[fluid as usize];
-            let millikelvin = coldest + random.number() % (3 * coldest);
+            let (fluid, coldest) = COLDEST[random.number() as usize % COLDEST.len()];
+            let millikelvin = coldest + random.number() % (2 * coldest);
             let pascals = LOWEST_PRESSURE + random.magnitude(2_000_000);
             let whole = reply(fluid, millikelvin, pascals);
             let [gas, dense] =
@@ -537,7 +689,7 @@ mod tests {
     #[test]
     fn order_of_the_refusals_with_a_side() {
         let states = [
-            (2, 0, 0, 1),
+            (3, 0, 0, 1),
             (u64::MAX, 300_000, 1_000_000, 1),
             (OXYGEN, 55_999, 0, 21),
             (OXYGEN, 1_000_001, 0, 22),
@@ -547,6 +699,10 @@ mod tests {
             (HYDROGEN, u64::MAX, u64::MAX, 22),
             (HYDROGEN, 14_000, 0, 31),
             (HYDROGEN, 1_000_000, u64::MAX, 32),
+            (NITROGEN, 63_999, 0, 21),
+            (NITROGEN, 1_000_001, 0, 22),
+            (NITROGEN, 64_000, 9_999, 31),
+            (NITROGEN, 64_000, 50_000_001, 32),
         ];
         let mut book = [7; BOOK_BYTES];
         for (fluid, millikelvin, pascals, number) in states {
@@ -644,7 +800,7 @@ mod tests {
     /// No root is above N + b, and b is greatest at the lowest temperature and the highest pressure.
     #[test]
     fn every_root_fits_three_bytes() {
-        for (fluid, coldest) in [(HYDROGEN, 14_000), (OXYGEN, 56_000)] {
+        for (fluid, coldest) in COLDEST {
             let [.., b] = coefficients(fluid, coldest, HIGHEST_PRESSURE);
             assert!(N + b < 1 << 24);
         }

@@ -49,13 +49,19 @@ fn main() -> Result<(), Refusal> {
     let slot = u32::from_le_bytes([book[15], book[16], book[17], 0]);
     println!("with a book: reply 0, and slot 5 holds {slot}");
 
+    let nitrogen = woolyard::side(Fluid::Nitrogen, 300_000, 1_000_000, Side::Gas)?;
+    println!(
+        "nitrogen at 300000 mK and 1000000 Pa: reply 0, root {}, {} g/m3",
+        nitrogen.root, nitrogen.density
+    );
+
     if let Err(refusal) = woolyard::state(Fluid::Oxygen, 55_999, 500_000) {
         println!("oxygen at 55999 mK: reply {}", refusal.number());
     }
 
     println!("hydrogen at 300 K: {:.6} kJ/(kg K)", woolyard::heat(300.0)?);
 
-    print_sheet(b"1\n300000 1000000\n2\n120000 500000\n55999 500000\n");
-    print_sheet(b"0\n1\n120000\n");
+    print_sheet(b"1\n300000 1000000\n2\n120000 500000\n55999 500000\n1\n90000 300000\n");
+    print_sheet(b"0\n1\n120000\n0\n");
     Ok(())
 }

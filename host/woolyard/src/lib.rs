@@ -1,5 +1,5 @@
-//! Woolyard: compressibility roots and densities of parahydrogen and oxygen, hydrogen's ideal heat
-//! capacity, and state sheets.
+//! Woolyard: compressibility roots and densities of parahydrogen, oxygen and nitrogen, hydrogen's ideal
+//! heat capacity, and state sheets.
 //!
 //! Safe Rust over `libwoolyard.a`, whose functions are proved to answer what document 01 (rules and
 //! scope of the build) defines, as later requests amend it. Every function answers every input, and
@@ -112,15 +112,15 @@ pub fn heat(kelvin: f64) -> Result<f64, Refusal> {
     Ok(heat)
 }
 
-/// Reads a whole sheet: the number of state lines, which is the sum of the two counts. The faulty line
+/// Reads a whole sheet: the number of state lines, which is the sum of the three counts. The faulty line
 /// of a refused one is given back as a part of `sheet`.
 ///
 /// ```
 /// use woolyard::FaultySheet;
 ///
-/// assert_eq!(woolyard::sheet(b"0\n1\n120000 500000\n"), Ok(1));
+/// assert_eq!(woolyard::sheet(b"0\n1\n120000 500000\n0\n"), Ok(1));
 /// let faulty = FaultySheet::Malformed { place: 2, line: b"x" };
-/// assert_eq!(woolyard::sheet(b"0\nx\n"), Err(faulty));
+/// assert_eq!(woolyard::sheet(b"0\nx\n0\n"), Err(faulty));
 /// ```
 pub fn sheet(sheet: &[u8]) -> Result<u64, FaultySheet<'_>> {
     let mut reading = [0; 3];
@@ -137,7 +137,7 @@ pub fn sheet(sheet: &[u8]) -> Result<u64, FaultySheet<'_>> {
     }
 }
 
-/// State line k of a sheet, counted from 0 through both sections: its fluid, temperature in millikelvin
+/// State line k of a sheet, counted from 0 through all sections: its fluid, temperature in millikelvin
 /// and pressure in pascals as written, in range or not. Refusal 7 comes before 6, and 6 before 16,
 /// which is given exactly when the sheet is good and k is not below the number of state lines.
 pub fn sheet_line(sheet: &[u8], k: u64) -> Result<State, Refusal> {

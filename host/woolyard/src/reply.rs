@@ -8,9 +8,12 @@ use std::fmt;
 pub enum Fluid {
     Parahydrogen = 0,
     Oxygen = 1,
+    Nitrogen = 2,
 }
 
 impl Fluid {
+    const ALL: [Fluid; 3] = [Fluid::Parahydrogen, Fluid::Oxygen, Fluid::Nitrogen];
+
     /// The number that stands for the fluid.
     pub fn number(self) -> u64 {
         self as u64
@@ -21,8 +24,9 @@ impl TryFrom<u64> for Fluid {
     type Error = Refusal;
 
     fn try_from(number: u64) -> Result<Fluid, Refusal> {
-        let mut fluids = [Fluid::Parahydrogen, Fluid::Oxygen].into_iter();
-        let fluid = fluids.find(|fluid| fluid.number() == number);
+        let fluid = Fluid::ALL
+            .into_iter()
+            .find(|known| known.number() == number);
         fluid.ok_or(Refusal::NoSuchFluid)
     }
 }
@@ -132,7 +136,9 @@ impl Refusal {
         if number == 0 {
             return Ok(());
         }
-        let refusal = Refusal::ALL.into_iter().find(|all| all.number() == number);
+        let refusal = Refusal::ALL
+            .into_iter()
+            .find(|known| known.number() == number);
         Err(refusal.unwrap_or_else(|| panic!("{number} is the number of no reply")))
     }
 }
@@ -140,7 +146,7 @@ impl Refusal {
 impl fmt::Display for Refusal {
     fn fmt(&self, text: &mut fmt::Formatter<'_>) -> fmt::Result {
         text.write_str(match self {
-            Refusal::NoSuchFluid => "fluid is neither 0 nor 1",
+            Refusal::NoSuchFluid => "fluid is above 2",
             Refusal::TemperatureTooLow => "temperature below the fluid's range",
             Refusal::TemperatureTooHigh => "temperature above the fluid's range",
             Refusal::PressureTooLow => "pressure below the range",

@@ -1,4 +1,4 @@
-//! Document 01, "Points worked through" and "State sheets", and document 02, C-18 and C-19.
+//! Document 01, "Points worked through" and "State sheets", and document 02, C-18 to C-20.
 
 use super::*;
 
@@ -8,6 +8,7 @@ const EXAMPLE: &[u8] = b"1
 300000 1000000
 120000 500000
 55999 500000
+0
 ";
 
 fn one(root: u64, density: u64) -> Answer {
@@ -38,6 +39,30 @@ fn states() {
 }
 
 #[test]
+fn nitrogen() {
+    let nitrogen = |millikelvin, pascals| state(Fluid::Nitrogen, millikelvin, pascals);
+    assert_eq!(nitrogen(300_000, 1_000_000), Ok(one(99_654, 11_269)));
+    let split = Answer {
+        kind: Kind::Split,
+        gas_root: 91_704,
+        dense_root: 1518,
+        gas_density: 12_246,
+        dense_density: 739_841,
+    };
+    assert_eq!(nitrogen(90_000, 300_000), Ok(split));
+    assert_eq!(nitrogen(63_999, 0), Err(Refusal::TemperatureTooLow));
+    assert_eq!(nitrogen(1_000_001, 0), Err(Refusal::TemperatureTooHigh));
+    assert_eq!(nitrogen(64_000, 9_999), Err(Refusal::PressureTooLow));
+    assert_eq!(nitrogen(64_000, 50_000_001), Err(Refusal::PressureTooHigh));
+    let dense = side(Fluid::Nitrogen, 90_000, 300_000, Side::Dense);
+    assert_eq!(dense, Ok(one_side(1518, 739_841)));
+    let mut book = [7; BOOK_BYTES];
+    let with_book = state_with_book(Fluid::Nitrogen, 90_000, 300_000, 63, &mut book);
+    assert_eq!(with_book, Ok(split));
+    assert_eq!(book, sevens_but(63, [0x38, 0x66, 0x01]));
+}
+
+#[test]
 fn ends_of_the_ranges() {
     let oxygen = |millikelvin, pascals| state(Fluid::Oxygen, millikelvin, pascals);
     assert_eq!(oxygen(55_999, 0), Err(Refusal::TemperatureTooLow));
@@ -53,8 +78,14 @@ fn ends_of_the_ranges() {
 fn fluids() {
     assert_eq!(Fluid::try_from(0), Ok(Fluid::Parahydrogen));
     assert_eq!(Fluid::try_from(1), Ok(Fluid::Oxygen));
-    assert_eq!(Fluid::try_from(2), Err(Refusal::NoSuchFluid));
-    assert_eq!(boundary::state(2, 0, 0, &mut [7; 5]), 1);
+    assert_eq!(Fluid::try_from(2), Ok(Fluid::Nitrogen));
+    // the second to the fourth are fluids to whoever keeps 32 bits
+    for number in [3, 1 << 32, (1 << 32) + 1, (1 << 32) + 2, u64::MAX] {
+        assert_eq!(Fluid::try_from(number), Err(Refusal::NoSuchFluid));
+        let mut figures = [7; FIGURES];
+        assert_eq!(boundary::state(number, 0, 0, &mut figures), 1);
+        assert_eq!(figures, [0; FIGURES]);
+    }
 }
 
 #[test]
@@ -133,7 +164,7 @@ fn sides_that_are_neither() {
             assert_eq!(figures, [0; SIDE_FIGURES]);
             number
         };
-        assert_eq!(call(2, 0, 0), 1);
+        assert_eq!(call(3, 0, 0), 1);
         assert_eq!(call(1, 55_999, 0), 21);
         assert_eq!(call(1, 1_000_001, 0), 22);
         assert_eq!(call(1, 120_000, 9_999), 31);
@@ -213,27 +244,57 @@ fn lines_of_the_example() {
     assert_eq!(sheet_line(EXAMPLE, u64::MAX), Err(Refusal::NoSuchLine));
 }
 
+fn malformed(place: usize, line: &[u8]) -> FaultySheet<'_> {
+    FaultySheet::Malformed { place, line }
+}
+
 #[test]
 fn small_sheets() {
-    assert_eq!(sheet(b"0\n0\n"), Ok(0));
-    assert_eq!(sheet_line(b"0\n0\n", 0), Err(Refusal::NoSuchLine));
-    let missing = FaultySheet::Malformed {
-        place: 0,
-        line: b"",
-    };
-    assert_eq!(sheet(b""), Err(missing));
+    assert_eq!(sheet(b"0\n0\n0\n"), Ok(0));
+    assert_eq!(sheet_line(b"0\n0\n0\n", 0), Err(Refusal::NoSuchLine));
+    assert_eq!(sheet(b""), Err(malformed(0, b"")));
     assert_eq!(sheet_line(b"", 0), Err(Refusal::SheetMalformed));
+}
+
+/// Nitrogen's section is the third: a sheet without it lacks a line, and nothing follows it.
+#[test]
+fn sections_of_a_sheet() {
+    let text = b"1\n300000 1000000\n0\n1\n90000 300000\n";
+    let state = State {
+        fluid: Fluid::Nitrogen,
+        millikelvin: 90_000,
+        pascals: 300_000,
+    };
+    assert_eq!(sheet(text), Ok(2));
+    assert_eq!(sheet_line(text, 1), Ok(state));
+    assert_eq!(sheet(b"0\n0\n"), Err(malformed(4, b"")));
+    assert_eq!(sheet(b"0\n0\n0\n0\n"), Err(malformed(6, b"0")));
 }
 
 /// The faulty line is a part of the sheet and no copy of it.
 #[test]
 fn faulty_line_of_a_sheet() {
-    let text = b"0\n1\n120000  500000\n";
+    let text = b"0\n1\n120000  500000\n0\n";
     let Err(FaultySheet::Malformed { place, line }) = sheet(text) else {
         panic!("a sheet with two spaces is refused")
     };
     assert_eq!((place, line), (4, &b"120000  500000"[..]));
     assert!(std::ptr::eq(line, &text[4..18]));
+}
+
+/// Full sections of the widest lines are too long. With shorter numbers in the first lines they have as many
+/// bytes as a sheet may have, and are good.
+#[test]
+fn full_sections() {
+    let line = "9999999999 9999999999";
+    let section = format!("1000\n{}", format!("{line}\n").repeat(1000));
+    let widest = section.repeat(3);
+    assert_eq!(sheet(widest.as_bytes()), Err(FaultySheet::TooLong));
+    let longest = widest
+        .replacen(line, "9 9", 26)
+        .replacen(line, "9 99999999", 1);
+    assert_eq!(longest.len(), SHEET_MOST_BYTES);
+    assert_eq!(sheet(longest.as_bytes()), Ok(3000));
 }
 
 #[test]
@@ -242,5 +303,5 @@ fn longest_sheet() {
     assert_eq!(sheet(&too_long), Err(FaultySheet::TooLong));
     assert_eq!(sheet_line(&too_long, 0), Err(Refusal::SheetTooLong));
     let line = &too_long[1..];
-    assert_eq!(sheet(line), Err(FaultySheet::Malformed { place: 0, line }));
+    assert_eq!(sheet(line), Err(malformed(0, line)));
 }

@@ -14,13 +14,13 @@ ended-line-requires : tie.Need-ended-line-requires
 ended-line-requires c κs = search needs
 
 returns : tie.Need-returns
-returns c = c .ended-line .ensures ∙ scan-met _ _ (c .before .before .scan .result) true (c .before .before .scan .ensures) (lt-ltb _ _ (c .before .if1 .taken))
+returns c = c .ended-line .ensures ∙ scan-met _ _ _ (c .before .before .scan .result) true (c .before .before .scan .ensures) (lt-ltb _ _ (c .before .if1 .taken))
 
 unended-line-requires : tie.Need-unended-line-requires
 unended-line-requires c κs = search needs
 
 returns-2 : tie.Need-returns-2
-returns-2 c = c .unended-line .ensures ∙ scan-met _ _ (c .before .before .scan .result) false (c .before .before .scan .ensures) (le-ltb _ _ (c .before .if1 .left))
+returns-2 c = c .unended-line .ensures ∙ scan-met _ _ _ (c .before .before .scan .result) false (c .before .before .scan .ensures) (le-ltb _ _ (c .before .if1 .left))
 
 pub line-at-spec : {M : Type 1} → statement M
 line-at-spec =

@@ -7,6 +7,7 @@ use native.Mathlib.Omega.{arith}
 use borrow.Author.Needs.{needs}
 use lib.ListN.{length}
 use Rattle.sheets.specs.declared.Next.the-variants as Next
+use Rattle.sheets.specs.Grammar.{allSections}
 use Rattle.readings.proofs.Nexts.{NextIn, next-came}
 use Rattle.sheets.proofs.Walks.{comes-moves}
 use Rattle.reader.proofs.Surveys.{Walked, begins, few, walks-here, walks-past, found-all, found-fault}
@@ -20,7 +21,7 @@ abbrev μ-loop : tie.MeasureT-loop
 μ-loop sheet k cursor₀ state-lines₀ wanted₀ cursor state-lines wanted = length sheet - cursor .place
 
 -- what came next, where it was a state line
-state-came : (c : tie.After-known-told Inv-loop μ-loop) → NextIn (c .before .before .before .before .before .before .before .args .sheet .now) (c .before .before .before .before .loop .cursor) (Next.State (c .before .state .given .0 .0) (c .before .state .given .0 .1 .0))
+state-came : (c : tie.After-known-told Inv-loop μ-loop) → NextIn allSections (c .before .before .before .before .before .before .before .args .sheet .now) (c .before .before .before .before .loop .cursor) (Next.State (c .before .state .given .0 .0) (c .before .state .given .0 .1 .0))
 state-came c = next-came _ _ (Next.State _ _) (c .before .state .given .1) (c .before .before .before .next .ensures)
 
 start-requires : tie.Need-start-requires Inv-loop μ-loop

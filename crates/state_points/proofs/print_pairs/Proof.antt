@@ -1,6 +1,6 @@
--- `state_points::print_pairs` meets its contract. The loop's invariant: two states were asked for each pair passed, and the book is as long as
--- it was. The measure is how many pairs are left. Assumes nothing.
-use Prim.Native.Nat.{_*_, _-_, _≤_}
+-- `state_points::print_pairs` meets its contract. The loop's invariant: as many states were asked as were passed, and the book is as long as it
+-- was. The measure is how many are left. Assumes nothing.
+use Prim.Native.Nat.{_-_, _≤_}
 use mathlib.Core.Path.{_≡_}
 use native.Mathlib.Omega.{arith}
 use lib.ListN.{length}
@@ -8,13 +8,16 @@ use Rattle.state_points.proofs.print_pairs.Statement.{statement}
 use Rattle.state_points.proofs.print_pairs.Tie as tie
 
 abbrev Inv-loop : tie.InvT-loop
-Inv-loop book₀ asked₀ pair₀ pair-end book asked pair = (length book ≡ length book₀) × (pair ≤ pair-end) × (asked ≡ 2 * pair)
+Inv-loop book₀ asked₀ question₀ question-end book asked question = (length book ≡ length book₀) × (question ≤ question-end) × (asked ≡ question)
 
 abbrev μ-loop : tie.MeasureT-loop
-μ-loop book₀ asked₀ pair₀ pair-end book asked pair = pair-end - pair
+μ-loop book₀ asked₀ question₀ question-end book asked question = question-end - question
 
-mul-pair-end : tie.Need-mul-pair-end Inv-loop μ-loop
-mul-pair-end c = omega arith
+mul-question-end : tie.Need-mul-question-end Inv-loop μ-loop
+mul-question-end c = omega arith
+
+mul-question-end-2 : tie.Need-mul-question-end-2 Inv-loop μ-loop
+mul-question-end-2 c = omega arith
 
 loop-holds : tie.Need-loop-holds Inv-loop μ-loop
 loop-holds c = omega arith
@@ -34,14 +37,11 @@ array-read-pascals c = omega arith
 print-state-requires : tie.Need-print-state-requires Inv-loop μ-loop
 print-state-requires c κs = omega arith
 
-print-state-requires-2 : tie.Need-print-state-requires-2 Inv-loop μ-loop
-print-state-requires-2 c κs = omega arith
-
 add-asked : tie.Need-add-asked Inv-loop μ-loop
 add-asked c = omega arith
 
-add-pair : tie.Need-add-pair Inv-loop μ-loop
-add-pair c = omega arith
+add-question : tie.Need-add-question Inv-loop μ-loop
+add-question c = omega arith
 
 loop-less : tie.Need-loop-less Inv-loop μ-loop
 loop-less c = omega arith
@@ -57,4 +57,4 @@ returns c = omega arith
 
 pub print-pairs-spec : {M : Type 1} → statement M
 print-pairs-spec =
-    tie.close (tie.spec Inv-loop μ-loop mul-pair-end loop-holds mul-millikelvin array-read-millikelvin mul-pascals array-read-pascals print-state-requires print-state-requires-2 add-asked add-pair loop-less loop-again same-length returns)
+    tie.close (tie.spec Inv-loop μ-loop mul-question-end mul-question-end-2 loop-holds mul-millikelvin array-read-millikelvin mul-pascals array-read-pascals print-state-requires add-asked add-question loop-less loop-again same-length returns)

@@ -37,7 +37,7 @@ pub const SLOTS: [u64; 13] = [
 ];
 
 /// Besides the worked ones: SPLIT and not, near the critical point, and the densest.
-const OTHERS: [[u64; 3]; 15] = [
+const OTHERS: [[u64; 3]; 19] = [
     [0, 14_000, 10_000],
     [0, 14_000, 50_000_000],
     [0, 20_000, 100_000],
@@ -53,6 +53,10 @@ const OTHERS: [[u64; 3]; 15] = [
     [1, 154_576, 5_042_000],
     [1, 160_000, 6_000_000],
     [1, 1_000_000, 50_000_000],
+    [2, 77_355, 101_325],
+    [2, 115_000, 2_000_000],
+    [2, 126_000, 3_370_000],
+    [2, 130_000, 4_000_000],
 ];
 
 /// Past the told length, so that what is written there shows: to whoever takes four bytes to a slot, the

@@ -5,9 +5,10 @@ use crate::call::Call;
 use crate::comparison::{Comparison, Outcome};
 use crate::workers::Unit;
 use second::random::Random;
-use second::sheet::{state_lines, LONGEST, TEN_NINES};
+use second::sheet::{state_lines, LONGEST, SECTIONS, TEN_NINES};
 use second::sheet_list::{
-    any_text, damage, distributions, insert, lines_in_any_order, list, written, List, LARGER,
+    any_text, damage, distributions, full_sheet, insert, lines_in_any_order, list, written, List,
+    LARGER, WIDEST,
 };
 
 const PART: &str = "sheets";
@@ -28,6 +29,8 @@ pub fn units() -> Vec<Unit> {
     let mut units = vec![
         unit(PART, |comparison| ask_all(comparison, &list())),
         unit(PART, inserted_bytes),
+        unit(PART, two_and_four_sections),
+        unit(PART, full_sheets),
         unit(PART, long_sheets),
     ];
     for seed in 0..UNITS {
@@ -54,7 +57,7 @@ fn ask_beginning(comparison: &mut Comparison, bytes: &[u8], length: usize) -> Ou
     let count = state_lines(&bytes[..length]) as u64;
     let mut lines: Vec<u64> = match count {
         0..=SHORT => (0..count).collect(),
-        _ => vec![0, 1, count / 3, count / 2, 999, count - 2, count - 1],
+        _ => vec![0, 1, count / 2, 999, 1000, 1999, 2000, count - 2, count - 1],
     };
     lines.extend([count, count + 1, 1 << 32, u64::MAX]);
     for k in lines {
@@ -72,7 +75,35 @@ fn inserted_bytes(comparison: &mut Comparison) -> Outcome {
     ask_all(comparison, &inserted.sheets)
 }
 
-/// Good sheets of every shape up to six state lines, each then damaged at every byte or cut off there
+/// Good sheets cut off before the count of an empty last section, and good ones with a section more.
+fn two_and_four_sections(comparison: &mut Comparison) -> Outcome {
+    let mut good = List::default();
+    distributions(&mut good, &mut Random(0));
+    for sheet in &good.sheets {
+        if sheet.ends_with(b"\n0\n") {
+            ask_beginning(comparison, sheet, sheet.len() - 2)?;
+        }
+        for fourth in [&b"0\n"[..], b"1\n300000 1000000\n"] {
+            ask(comparison, &[sheet, fourth].concat())?;
+        }
+    }
+    Ok(())
+}
+
+/// Full sections: some bytes less than a sheet may have, as many, and more, up to the most that the
+/// lines of full sections can have; a byte less or more at their end; and a section less.
+fn full_sheets(comparison: &mut Comparison) -> Outcome {
+    for bytes in (LONGEST - 2..=LONGEST + 2).chain([WIDEST - 1, WIDEST]) {
+        let sheet = full_sheet(bytes);
+        ask(comparison, &sheet)?;
+        ask(comparison, &[&sheet[..], b"\n"].concat())?;
+        ask(comparison, &sheet[..bytes - 1])?;
+        ask_beginning(comparison, &sheet, bytes - WIDEST / SECTIONS)?;
+    }
+    Ok(())
+}
+
+/// Good sheets of every shape up to four state lines, each then damaged at every byte or cut off there
 /// with the rest still behind.
 fn good_and_damaged(comparison: &mut Comparison, seed: u64) -> Outcome {
     let mut random = Random(seed);
@@ -111,13 +142,15 @@ fn any_texts(comparison: &mut Comparison, seed: u64) -> Outcome {
 fn long_sheets(comparison: &mut Comparison) -> Outcome {
     let mut random = Random(0);
     for counts in [
-        [17, 0],
-        [0, 17],
-        [255, 256],
-        [999, 1000],
-        [1000, 1000],
-        [1001, 0],
-        [0, 1001],
+        [17, 0, 0],
+        [0, 17, 0],
+        [0, 0, 17],
+        [255, 256, 257],
+        [1000, 999, 1000],
+        [1000, 1000, 1000],
+        [1001, 0, 0],
+        [0, 1001, 0],
+        [0, 0, 1001],
     ] {
         let any = written(counts, |_| {
             [TEN_NINES; 2].map(|most| random.magnitude(most))
@@ -128,7 +161,7 @@ fn long_sheets(comparison: &mut Comparison) -> Outcome {
     at_the_end(comparison, b"9")
 }
 
-/// The sheet with its end damaged, and filled up to the greatest length and past it.
+/// The sheet with its end damaged, and cut off or filled up at the greatest length and past it.
 fn at_the_end(comparison: &mut Comparison, sheet: &[u8]) -> Outcome {
     ask(comparison, sheet)?;
     ask(comparison, &[sheet, b"\n"].concat())?;

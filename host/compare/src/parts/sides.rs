@@ -12,11 +12,13 @@ use second::state::{BOOK_BYTES, BOOK_SLOTS, DENSE, GAS};
 const PART: &str = "sides";
 
 /// Besides the worked ones: hydrogen where it is SPLIT, and the refusals that no worked state has.
-const OTHERS: [[u64; 3]; 4] = [
+const OTHERS: [[u64; 3]; 6] = [
     [0, 25_000, 200_000],
     [0, 1_000_001, u64::MAX],
     [1, u64::MAX, 500_000],
     [1, 120_000, 50_000_001],
+    [2, 1_000_001, 500_000],
+    [2, 90_000, 50_000_001],
 ];
 
 /// For each of those states.

@@ -12,15 +12,15 @@ use second::state::{critical, Reply, HIGHEST_PRESSURE, LOWEST_PRESSURE};
 const PART: &str = "split";
 
 /// Of each unit.
-const STATES: usize = 2000;
-const ISOTHERMS: u64 = 8;
+const STATES: usize = 2100;
+const ISOTHERMS: u64 = 6;
 
 const UNITS: u64 = 12;
 
 /// The isotherms of the tip lie 1, 2, 4 and so on to 4096 mK below the critical temperature.
 const DOUBLINGS: u32 = 12;
 
-/// No state is SPLIT above it, as the critical pressure of oxygen is 5,042,000 Pa and hydrogen's is less.
+/// No state is SPLIT above it, as the critical pressure of oxygen is 5,042,000 Pa and the others' are less.
 const HIGHEST_SPLIT: u64 = 5_100_000;
 
 pub fn units() -> Vec<Unit> {

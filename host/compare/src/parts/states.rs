@@ -14,14 +14,27 @@ use second::state::{
 const PART: &str = "states";
 
 /// Of each unit of the spread.
-const STATES: usize = 2500;
+const STATES: usize = 3000;
 const UNITS: u64 = 72;
 
-/// No fluid but the first two, though the fifth and sixth are those to whoever keeps 32 bits.
-pub const FLUID_NUMBERS: [u64; 7] = [0, 1, 2, 3, 1 << 32, (1 << 32) + 1, u64::MAX];
+/// The fluids; the first that are none; those that are fluids to whoever keeps 8 or 32 bits; and the last.
+pub const FLUID_NUMBERS: [u64; 12] = [
+    0,
+    1,
+    2,
+    3,
+    4,
+    1 << 8,
+    (1 << 8) + 1,
+    (1 << 8) + 2,
+    1 << 32,
+    (1 << 32) + 1,
+    (1 << 32) + 2,
+    u64::MAX,
+];
 
 /// The ends with their neighbours, and what is in range for whoever keeps 32 bits.
-pub const TEMPERATURES: [u64; 21] = [
+pub const TEMPERATURES: [u64; 25] = [
     0,
     1,
     13_998,
@@ -32,6 +45,10 @@ pub const TEMPERATURES: [u64; 21] = [
     55_999,
     56_000,
     56_001,
+    63_998,
+    63_999,
+    64_000,
+    64_001,
     300_000,
     999_998,
     999_999,

@@ -8,7 +8,8 @@
 
 use second::random::Random;
 use second::sheet::{print, EXAMPLE, LONGEST};
-use second::state::{COLDEST, HIGHEST_PRESSURE, HOTTEST, LOWEST_PRESSURE};
+use second::sheet_list::{full_sheet, WIDEST};
+use second::state::{Fluid, FLUIDS, HIGHEST_PRESSURE, HOTTEST, LOWEST_PRESSURE};
 use std::path::Path;
 use std::{fs, io};
 
@@ -16,91 +17,122 @@ use std::{fs, io};
 const SHORT: &[(&str, &[u8])] = &[
     // good ones
     ("example", EXAMPLE),
-    ("no_states", b"0\n0\n"),
-    ("hydrogen_alone", b"1\n300000 1000000\n0\n"),
-    ("oxygen_alone", b"0\n1\n120000 500000\n"),
+    ("no_states", b"0\n0\n0\n"),
+    ("hydrogen_alone", b"1\n300000 1000000\n0\n0\n"),
+    ("oxygen_alone", b"0\n1\n120000 500000\n0\n"),
+    ("nitrogen_alone", b"0\n0\n2\n300000 1000000\n90000 300000\n"),
     // near the critical point all four figures of a SPLIT line are long
-    ("split_long_figures", b"0\n1\n150000 4200000\n"),
-    ("zeros", b"1\n0 0\n1\n0 0\n"),
-    ("out_of_range", b"1\n13999 9999\n1\n56000 9999\n"),
-    ("ten_digits_temperature", b"1\n9999999999 1000000\n0\n"),
-    ("ten_digits_pressure", b"0\n1\n300000 9999999999\n"),
+    ("split_long_figures", b"0\n1\n150000 4200000\n0\n"),
+    ("split_long_figures_nitrogen", b"0\n0\n1\n122000 2800000\n"),
+    ("zeros", b"1\n0 0\n1\n0 0\n1\n0 0\n"),
+    (
+        "out_of_range",
+        b"1\n13999 9999\n1\n56000 9999\n1\n63999 9999\n",
+    ),
+    ("ten_digits_temperature", b"1\n9999999999 1000000\n0\n0\n"),
+    ("ten_digits_pressure", b"0\n0\n1\n300000 9999999999\n"),
     // in range for whoever keeps 32 bits: 300,000 and 1,000,000 more than 2 to the 32nd
-    ("past_32_bits_temperature", b"1\n4295267296 1000000\n0\n"),
-    ("past_32_bits_pressure", b"0\n1\n300000 4295967296\n"),
+    ("past_32_bits_temperature", b"1\n4295267296 1000000\n0\n0\n"),
+    ("past_32_bits_pressure", b"0\n0\n1\n300000 4295967296\n"),
     // lines that are missing, or without their end
     ("empty", b""),
     ("missing_second_count", b"0\n"),
     ("missing_second_count_after_state", b"1\n300000 1000000\n"),
+    ("missing_third_count", b"0\n0\n"),
+    ("missing_third_count_after_state", b"0\n1\n120000 500000\n"),
     ("missing_hydrogen_state", b"2\n300000 1000000\n"),
     ("missing_oxygen_state", b"0\n1\n"),
-    ("missing_state_before_count", b"2\n300000 1000000\n0\n"),
+    ("missing_nitrogen_state", b"0\n0\n1\n"),
+    ("missing_state_before_count", b"2\n300000 1000000\n0\n0\n"),
+    (
+        "missing_state_before_third_count",
+        b"0\n2\n120000 500000\n0\n",
+    ),
     ("no_end_first_count", b"0"),
     ("no_end_second_count", b"0\n0"),
+    ("no_end_third_count", b"0\n0\n0"),
     ("no_end_hydrogen_state", b"1\n300000 1000000"),
-    ("no_end_last_state", b"0\n2\n300000 1000000\n120000 500000"),
+    (
+        "no_end_last_state",
+        b"0\n0\n2\n300000 1000000\n90000 300000",
+    ),
     // bytes after the end
-    ("after_end_byte_10", b"0\n0\n\n"),
-    ("after_end_letter", b"0\n0\nx"),
-    ("after_end_space", b"0\n0\n "),
-    ("after_end_byte_0", b"0\n0\n\x00"),
-    ("after_end_state", b"0\n1\n120000 500000\n120000 500000\n"),
-    ("after_end_third_section", b"0\n0\n1\n300000 1000000\n"),
+    ("after_end_byte_10", b"0\n0\n0\n\n"),
+    ("after_end_letter", b"0\n0\n0\nx"),
+    ("after_end_space", b"0\n0\n0\n "),
+    ("after_end_byte_0", b"0\n0\n0\n\x00"),
+    ("after_end_state", b"0\n0\n1\n90000 300000\n90000 300000\n"),
+    ("after_end_fourth_section", b"0\n0\n0\n1\n300000 1000000\n"),
+    (
+        "after_end_empty_fourth_section",
+        b"0\n0\n1\n90000 300000\n0\n",
+    ),
     // count lines
-    ("count_two_numbers", b"1 1\n300000 1000000\n0\n"),
-    ("count_letter", b"0\nx\n"),
-    ("count_letter_after_digit", b"0x\n0\n"),
-    ("count_empty_line", b"\n0\n"),
-    ("count_empty_line_second", b"0\n\n"),
-    ("count_leading_space", b" 0\n0\n"),
-    ("count_trailing_space", b"0\n0 \n"),
-    ("count_plus", b"+0\n0\n"),
-    ("count_minus", b"0\n-0\n"),
-    ("count_two_zeros", b"00\n0\n"),
-    ("count_leading_zero", b"0\n01\n120000 500000\n"),
-    ("count_ten_digits", b"0\n9999999999\n"),
-    ("count_eleven_digits", b"10000000000\n0\n"),
-    ("count_carriage_return", b"0\r\n0\r\n"),
-    ("count_byte_0", b"0\x00\n0\n"),
-    ("count_byte_255", b"0\n\xFF\n"),
+    ("count_two_numbers", b"1 1\n300000 1000000\n0\n0\n"),
+    ("count_letter", b"0\nx\n0\n"),
+    ("count_letter_third", b"0\n0\nx\n"),
+    ("count_letter_after_digit", b"0x\n0\n0\n"),
+    ("count_empty_line", b"\n0\n0\n"),
+    ("count_empty_line_second", b"0\n\n0\n"),
+    ("count_empty_line_third", b"0\n0\n\n"),
+    ("count_leading_space", b" 0\n0\n0\n"),
+    ("count_trailing_space", b"0\n0\n0 \n"),
+    ("count_plus", b"+0\n0\n0\n"),
+    ("count_minus", b"0\n0\n-0\n"),
+    ("count_two_zeros", b"00\n0\n0\n"),
+    ("count_leading_zero", b"0\n01\n120000 500000\n0\n"),
+    ("count_ten_digits", b"0\n0\n9999999999\n"),
+    ("count_eleven_digits", b"10000000000\n0\n0\n"),
+    ("count_carriage_return", b"0\r\n0\r\n0\r\n"),
+    ("count_byte_0", b"0\x00\n0\n0\n"),
+    ("count_byte_255", b"0\n\xFF\n0\n"),
     // no states for whoever keeps 16, 32 or 64 bits
-    ("count_past_16_bits", b"65536\n0\n"),
-    ("count_past_32_bits", b"0\n4294967296\n"),
-    ("count_past_64_bits", b"18446744073709551616\n0\n"),
+    ("count_past_16_bits", b"65536\n0\n0\n"),
+    ("count_past_32_bits", b"0\n0\n4294967296\n"),
+    ("count_past_64_bits", b"18446744073709551616\n0\n0\n"),
     // state lines
-    ("state_letter_temperature", b"2\n5 6\n30x000 1000000\n0\n"),
-    ("state_letter_pressure", b"0\n1\n120000 50000x\n"),
-    ("state_empty_line", b"1\n\n0\n"),
-    ("state_space_alone", b"0\n1\n \n"),
-    ("state_one_number", b"0\n1\n120000\n"),
-    ("state_one_number_and_space", b"1\n300000 \n0\n"),
-    ("state_space_and_one_number", b"1\n 1000000\n0\n"),
-    ("state_three_numbers", b"0\n1\n120000 500000 0\n"),
-    ("state_leading_space", b"1\n 300000 1000000\n0\n"),
-    ("state_trailing_space", b"0\n2\n5 6\n120000 500000 \n"),
-    ("state_two_spaces", b"1\n300000  1000000\n0\n"),
-    ("state_tab", b"0\n1\n120000\t500000\n"),
-    ("state_carriage_return", b"1\n300000 1000000\r\n0\n"),
-    ("state_plus_temperature", b"1\n+300000 1000000\n0\n"),
-    ("state_plus_pressure", b"0\n1\n120000 +500000\n"),
-    ("state_minus_temperature", b"0\n1\n-120000 500000\n"),
-    ("state_minus_pressure", b"1\n300000 -1000000\n0\n"),
-    ("state_point", b"1\n300000.0 1000000\n0\n"),
-    ("state_two_zeros_temperature", b"1\n00 1000000\n0\n"),
-    ("state_two_zeros_pressure", b"0\n1\n120000 00\n"),
-    ("state_leading_zero_temperature", b"0\n1\n0120000 500000\n"),
-    ("state_leading_zero_pressure", b"1\n300000 01000000\n0\n"),
-    ("eleven_digits_temperature", b"1\n10000000000 1000000\n0\n"),
-    ("eleven_digits_pressure", b"0\n1\n120000 99999999999\n"),
+    (
+        "state_letter_temperature",
+        b"2\n5 6\n30x000 1000000\n0\n0\n",
+    ),
+    ("state_letter_pressure", b"0\n1\n120000 50000x\n0\n"),
+    ("state_empty_line", b"1\n\n0\n0\n"),
+    ("state_space_alone", b"0\n0\n1\n \n"),
+    ("state_one_number", b"0\n1\n120000\n0\n"),
+    ("state_one_number_and_space", b"1\n300000 \n0\n0\n"),
+    ("state_space_and_one_number", b"1\n 1000000\n0\n0\n"),
+    ("state_three_numbers", b"0\n0\n1\n120000 500000 0\n"),
+    ("state_leading_space", b"1\n 300000 1000000\n0\n0\n"),
+    ("state_trailing_space", b"0\n2\n5 6\n120000 500000 \n0\n"),
+    ("state_two_spaces", b"1\n300000  1000000\n0\n0\n"),
+    ("state_tab", b"0\n0\n1\n120000\t500000\n"),
+    ("state_carriage_return", b"1\n300000 1000000\r\n0\n0\n"),
+    ("state_plus_temperature", b"1\n+300000 1000000\n0\n0\n"),
+    ("state_plus_pressure", b"0\n1\n120000 +500000\n0\n"),
+    ("state_minus_temperature", b"0\n0\n1\n-120000 500000\n"),
+    ("state_minus_pressure", b"1\n300000 -1000000\n0\n0\n"),
+    ("state_point", b"1\n300000.0 1000000\n0\n0\n"),
+    ("state_two_zeros_temperature", b"1\n00 1000000\n0\n0\n"),
+    ("state_two_zeros_pressure", b"0\n1\n120000 00\n0\n"),
+    (
+        "state_leading_zero_temperature",
+        b"0\n0\n1\n0120000 500000\n",
+    ),
+    ("state_leading_zero_pressure", b"1\n300000 01000000\n0\n0\n"),
+    (
+        "eleven_digits_temperature",
+        b"1\n10000000000 1000000\n0\n0\n",
+    ),
+    ("eleven_digits_pressure", b"0\n1\n120000 99999999999\n0\n"),
     // 300,000 for whoever keeps 64 bits
-    ("past_64_bits", b"1\n18446744073709851616 1000000\n0\n"),
+    ("past_64_bits", b"1\n18446744073709851616 1000000\n0\n0\n"),
     // the neighbours of the digits
-    ("state_byte_47", b"0\n1\n12/000 500000\n"),
-    ("state_byte_58", b"0\n1\n120000 5:0000\n"),
-    ("state_byte_0", b"1\n300000\x001000000\n0\n"),
-    ("state_byte_0_last", b"0\n1\n120000 500000\x00\n"),
-    ("state_byte_255", b"0\n1\n120000\xFF500000\n"),
-    ("state_byte_255_first", b"1\n\xFF300000 1000000\n0\n"),
+    ("state_byte_47", b"0\n0\n1\n12/000 500000\n"),
+    ("state_byte_58", b"0\n1\n120000 5:0000\n0\n"),
+    ("state_byte_0", b"1\n300000\x001000000\n0\n0\n"),
+    ("state_byte_0_last", b"0\n0\n1\n120000 500000\x00\n"),
+    ("state_byte_255", b"0\n1\n120000\xFF500000\n0\n"),
+    ("state_byte_255_first", b"1\n\xFF300000 1000000\n0\n0\n"),
 ];
 
 fn main() -> io::Result<()> {
@@ -146,12 +178,15 @@ fn long() -> Vec<(&'static str, Vec<u8>)> {
     vec![
         ("full", full()),
         ("sides", sides()),
-        ("longest", filled(&largest(), LONGEST)),
-        ("too_long", filled(b"0\n0\n", LONGEST + 1)),
+        ("longest", full_sheet(LONGEST)),
+        ("too_long", full_sheet(LONGEST + 1)),
+        ("widest", full_sheet(WIDEST)),
+        ("after_end_longest_line", filled(b"0\n0\n0\n", LONGEST)),
         ("after_end_long_line", filled(EXAMPLE, 1000)),
-        ("count_1000_missing_state", zeros("0\n1000\n", 999, "")),
-        ("count_1001", zeros("1001\n", 1001, "0\n")),
-        ("count_1001_second", zeros("0\n1001\n", 1001, "")),
+        ("count_1000_missing_state", zeros("0\n0\n1000\n", 999, "")),
+        ("count_1001", zeros("1001\n", 1001, "0\n0\n")),
+        ("count_1001_second", zeros("0\n1001\n", 1001, "0\n")),
+        ("count_1001_third", zeros("0\n0\n1001\n", 1001, "")),
     ]
 }
 
@@ -167,17 +202,11 @@ fn filled(sheet: &[u8], length: usize) -> Vec<u8> {
     sheet
 }
 
-/// The longest good sheet.
-fn largest() -> Vec<u8> {
-    let states = "9999999999 9999999999\n".repeat(1000);
-    format!("1000\n{states}1000\n{states}").into()
-}
-
-/// As many states as a sheet can hold.
+/// As many states as a sheet can hold. Few of their numbers are wide, so its length is far from the greatest.
 fn full() -> Vec<u8> {
     let mut random = Random(0x5EED);
     let mut sheet = String::new();
-    for coldest in COLDEST {
+    for Fluid { coldest, .. } in FLUIDS {
         let mut states = ends(coldest);
         while states.len() < 1000 {
             states.push(state(coldest, &mut random));
@@ -197,7 +226,7 @@ fn sides() -> Vec<u8> {
     let numbers =
         |low, good, high| [&[0, good, 9_999_999_999][..], &around(low), &around(high)].concat();
     let mut sheet = String::new();
-    for coldest in COLDEST {
+    for Fluid { coldest, .. } in FLUIDS {
         let temperatures = numbers(coldest, 300_000, HOTTEST);
         let pressures = numbers(LOWEST_PRESSURE, 1_000_000, HIGHEST_PRESSURE);
         sheet += &format!("{}\n", temperatures.len() * pressures.len());
@@ -222,7 +251,7 @@ fn ends(coldest: u64) -> Vec<[u64; 2]> {
 }
 
 /// Mostly in range, and half of those cold and half of them at a low pressure, since SPLIT
-/// states are both. Three times the coldest temperature is about the critical one.
+/// states are both. Three times the coldest temperature is above the critical one.
 fn state(coldest: u64, random: &mut Random) -> [u64; 2] {
     let hottest = [3 * coldest, HOTTEST][random.number() as usize % 2];
     let highest = [1_000_000, HIGHEST_PRESSURE][random.number() as usize % 2];

@@ -93,12 +93,16 @@ mod tests {
     #[test]
     fn answers_of_worked_points() {
         let told = |sheet| String::from_utf8(answers(sheet)).expect("ASCII");
-        assert_eq!(told(b"0\n0\n"), "0 0 0 [] | 16 0 0 0 0 | 16 0 0 0 0");
+        assert_eq!(told(b"0\n0\n0\n"), "0 0 0 [] | 16 0 0 0 0 | 16 0 0 0 0");
         assert_eq!(told(b""), "6 0 0 [] | 6 0 0 0 0 | 6 0 0 0 0");
         assert_eq!(
             told(EXAMPLE),
             "0 4 0 [] | 0 0 300000 1000000 0 | 0 1 300000 1000000 0 | 0 1 120000 500000 0 \
              | 0 1 55999 500000 0 | 16 0 0 0 0 | 16 0 0 0 0"
+        );
+        assert_eq!(
+            told(b"0\n0\n1\n90000 300000\n"),
+            "0 1 0 [] | 0 2 90000 300000 0 | 16 0 0 0 0 | 16 0 0 0 0"
         );
         assert_eq!(told(b"1\n0 0\n0:\n"), "6 0 6 [0:] | 6 0 0 0 6 | 6 0 0 0 6");
     }

@@ -7,7 +7,7 @@ use borrow.Author.Needs.{needs}
 use Rattle.sheets.specs.declared.Cursor.{Cursor}
 use Rattle.sheets.specs.declared.Next.{Next}
 use Rattle.sheets.specs.declared.Line.the-variants.{Count, Told}
-use Rattle.sheets.specs.Grammar.{sections}
+use Rattle.sheets.specs.Grammar.{allSections}
 use Rattle.sheets.specs.Reading.{CountLine, Here, Comes, behind-count, here}
 use Rattle.sheets.proofs.Meets.{stands-as}
 use Rattle.readings.proofs.Nexts.{long-next, told-next}
@@ -15,16 +15,16 @@ use Rattle.reader.proofs.cursors.next.Statement.{statement}
 use Rattle.reader.proofs.cursors.next.Tie as tie
 
 abbrev Inv-loop : tie.InvT-loop
-Inv-loop sheet cursor₀ cursor = (next : Next) → Comes sheet cursor next → Comes sheet cursor₀ next
+Inv-loop sheet cursor₀ cursor = (next : Next) → Comes allSections sheet cursor next → Comes allSections sheet cursor₀ next
 
 abbrev μ-loop : tie.MeasureT-loop
-μ-loop sheet cursor₀ cursor = sections - cursor .begun
+μ-loop sheet cursor₀ cursor = allSections - cursor .begun
 
-count-line : (c : tie.After-known-told Inv-loop μ-loop) → CountLine (c .before .before .before .before .before .before .before .args .sheet .now) (c .before .before .before .before .loop .cursor) (c .before .after .given .0 .0)
-count-line c = stands-as _ _ (Count _) (sym (c .before .after .given .1) ∙ c .before .before .before .line-at .ensures)
+count-line : (c : tie.After-known-told Inv-loop μ-loop) → CountLine allSections (c .before .before .before .before .before .before .before .args .sheet .now) (c .before .before .before .before .loop .cursor) (c .before .after .given .0 .0)
+count-line c = stands-as _ _ _ (Count _) (sym (c .before .after .given .1) ∙ c .before .before .before .line-at .ensures)
 
-here-line : (c : tie.After-known-told2 Inv-loop μ-loop) → Here (c .before .before .before .before .before .before .before .args .sheet .now) (c .before .before .before .before .loop .cursor) (c .before .next .given .0 .0)
-here-line c = stands-as _ _ (Told _) (sym (c .before .next .given .1) ∙ c .before .before .before .line-at .ensures)
+here-line : (c : tie.After-known-told2 Inv-loop μ-loop) → Here allSections (c .before .before .before .before .before .before .before .args .sheet .now) (c .before .before .before .before .loop .cursor) (c .before .next .given .0 .0)
+here-line c = stands-as _ _ _ (Told _) (sym (c .before .next .given .1) ∙ c .before .before .before .line-at .ensures)
 
 returns : tie.Need-returns Inv-loop μ-loop
 returns c = long-next _ _ (c .if1 .taken)

@@ -1,0 +1,21 @@
+// Nitrogen: its constants (document 02, C-20; source document 000, Table 2).
+use crate::choice::Figures;
+
+pub struct Nitrogen {}
+
+impl Nitrogen {
+    // 28.0134, in hundred-thousandths.
+    pub const MOLAR_MASS: u64 = 2_801_340;
+
+    pub const COLDEST_MILLIKELVIN: u64 = 64_000;
+
+    pub const CRITICAL_MILLIKELVIN: u64 = 126_192;
+
+    pub const CRITICAL_PASCALS: u64 = 3_395_800;
+
+    pub(crate) const FIGURES: Figures = Figures {
+        coldest_millikelvin: Self::COLDEST_MILLIKELVIN,
+        critical_millikelvin: Self::CRITICAL_MILLIKELVIN,
+        critical_pascals: Self::CRITICAL_PASCALS,
+    };
+}
