@@ -24,9 +24,7 @@ impl TryFrom<u64> for Fluid {
     type Error = Refusal;
 
     fn try_from(number: u64) -> Result<Fluid, Refusal> {
-        let fluid = Fluid::ALL
-            .into_iter()
-            .find(|known| known.number() == number);
+        let fluid = Fluid::ALL.into_iter().find(|all| all.number() == number);
         fluid.ok_or(Refusal::NoSuchFluid)
     }
 }
@@ -136,9 +134,7 @@ impl Refusal {
         if number == 0 {
             return Ok(());
         }
-        let refusal = Refusal::ALL
-            .into_iter()
-            .find(|known| known.number() == number);
+        let refusal = Refusal::ALL.into_iter().find(|all| all.number() == number);
         Err(refusal.unwrap_or_else(|| panic!("{number} is the number of no reply")))
     }
 }
