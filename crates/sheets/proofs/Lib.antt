@@ -8,6 +8,7 @@ pub mod Meets
 pub mod Walks
 pub mod Existence
 pub mod Passed
+pub mod Fluids
 pub mod Written
 pub mod Readable
 pub mod Once
