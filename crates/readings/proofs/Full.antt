@@ -8,6 +8,7 @@ use native.Mathlib.Omega.{arith}
 use lib.ListN.{length, replicate, length-replicate, length-append}
 use Rattle.refusals.specs.Checks.{answers}
 use Rattle.sheets.specs.Grammar.{allSections, mostStates, digits, decimal, Pair, pairText, line, stateLines, section, sheet, EachWritable, EachSection, Good, sumOfCounts}
+use Rattle.sheets.proofs.Written.{none-written}
 use Rattle.readings.specs.declared.Reading.the-variants as Reading
 use Rattle.readings.specs.Figures.{sheetAnswered, sheetFigures}
 use Rattle.readings.specs.Replies.{ReadsAs}
@@ -31,10 +32,6 @@ unfolding section sheet
 section-long pairs lists =
     omega (arith, length-append (section pairs) (sheet lists), length-append (line (decimal (length pairs))) (stateLines pairs))
 
-none-long : length (sheet []) ≡ 0
-unfolding sheet
-none-long = refl
-
 count-long : (count : ℕ) → length (line (decimal (length (replicate count longest)))) ≡ length (line (decimal count))
 count-long count = ap (λ (n : ℕ). length (line (decimal n))) (length-replicate count longest)
 
@@ -56,7 +53,7 @@ full-sheet-is-good =
     record { has-sections = refl; writable = full-writable (full ∷ full ∷ []) (full-writable (full ∷ []) (full-writable [] tt)); written = refl }
 
 pub full-sheet-has-66015-bytes : length (sheet fullSheet) ≡ 66015
-full-sheet-has-66015-bytes = omega (arith, full-long (full ∷ full ∷ []), full-long (full ∷ []), full-long [], none-long)
+full-sheet-has-66015-bytes = omega (arith, full-long (full ∷ full ∷ []), full-long (full ∷ []), full-long [], ap length none-written)
 
 pub full-sheet-is-refused-by-7 : ReadsAs (sheet fullSheet) (sheetFigures Reading.TooLong)
 full-sheet-is-refused-by-7 = long-told (sheet fullSheet) (omega (arith, full-sheet-has-66015-bytes))
@@ -68,7 +65,7 @@ last = record { millikelvin = 10; pascals = 10 } ∷ replicate 978 longest
 last-long : length (sheet (last ∷ [])) ≡ 21526
 unfolding stateLines pairText decimal digits
 last-long =
-    omega (arith, section-long last [], none-long, ap (λ (n : ℕ). length (line (decimal (suc n)))) (length-replicate 978 longest), length-append (line (pairText (record { millikelvin = 10; pascals = 10 }))) (stateLines (replicate 978 longest)), lines-long 978)
+    omega (arith, section-long last [], ap length none-written, ap (λ (n : ℕ). length (line (decimal (suc n)))) (length-replicate 978 longest), length-append (line (pairText (record { millikelvin = 10; pascals = 10 }))) (stateLines (replicate 978 longest)), lines-long 978)
 
 abbrev pub largestSheet : List (List Pair)
 largestSheet = full ∷ full ∷ last ∷ []

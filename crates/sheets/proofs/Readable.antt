@@ -14,20 +14,12 @@ use Rattle.sheets.specs.Grammar.{lineEnd, decimal, Pair, pairText, state
 use Rattle.sheets.specs.Reading.{start, Begins, CountLine, StateLine, IsOver, Comes, here, Reads, FaultAt}
 use Rattle.sheets.proofs.Splits.{drop-behind}
 use Rattle.sheets.proofs.Walks.{behind}
-use Rattle.sheets.proofs.Written.{count-first, state-first, nothing}
+use Rattle.sheets.proofs.Written.{count-first, state-first, nothing, none-written}
 
 sheet-append : (lists rest : List (List Pair)) → sheet (lists ++ rest) ≡ sheet lists ++ sheet rest
 unfolding sheet
 sheet-append [] rest = refl
 sheet-append (pairs ∷ lists) rest = ap (λ (l : List ℕ). section pairs ++ l) (sheet-append lists rest) ∙ sym (append-assoc (section pairs) (sheet lists) (sheet rest))
-
-none-long : 0 ≡ length (stateLines [] ++ sheet [])
-unfolding stateLines sheet
-none-long = refl
-
-none-written : sheet [] ≡ []
-unfolding sheet
-none-written = refl
 
 -- a line, its end and what follows
 line-long : (text rest : List ℕ) → length (text ++ (lineEnd ∷ rest)) ≡ suc (length text) + length rest
@@ -96,7 +88,7 @@ module _ (sections : ℕ) (bytes : List ℕ) where
 
     sheet-read : (lists : List (List Pair)) → EachSection lists → Readable lists
     sheet-read [] each cursor none-left fit written comes =
-        subst (λ (c : Cursor). Comes sections bytes c last) (same-cursor (past cursor [] []) cursor (omega arith) (sym none-left) (omega (arith, none-long))) comes
+        subst (λ (c : Cursor). Comes sections bytes c last) (same-cursor (past cursor [] []) cursor (omega arith) (sym none-left) (omega (arith, ap length (nothing (sheet []) ∙ none-written)))) comes
     sheet-read (pairs ∷ lists) each cursor none-left fit written comes =
         behind bytes cursor after (ofFluid (cursor .begun) pairs ++ statesFrom (suc (cursor .begun)) lists) last
         line

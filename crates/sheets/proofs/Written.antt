@@ -32,9 +32,12 @@ pub nothing : (l : List ℕ) → stateLines [] ++ l ≡ l
 unfolding stateLines
 nothing l = refl
 
-pub none-first : [] ≡ stateLines [] ++ sheet []
-unfolding stateLines sheet
-none-first = refl
+pub none-written : sheet [] ≡ []
+unfolding sheet
+none-written = refl
+
+none-first : [] ≡ stateLines [] ++ sheet []
+none-first = sym (nothing (sheet []) ∙ none-written)
 
 -- read to the end from a cursor on, the bytes were written from lists
 pub record Lists (sections : ℕ) (bytes : List ℕ) (cursor : Cursor) (states : List State) : Type 0 where
