@@ -28,6 +28,7 @@ countOf lists = some (sheetAnswered (sumOfCounts lists))
 abbrev pub lineIn : (k : ℕ) → List (List Pair) → Option LineFigures
 lineIn k lists = Option·map lineAnswered (getElem? (statesFrom 0 lists) k)
 
+-- `bytes`, taken for a sheet of so many sections
 module _ (sections : ℕ) (bytes : List ℕ) where
   abbrev pub NoSheet : Type 0
   NoSheet = (lists : List (List Pair)) → Good sections bytes lists → ⊥

@@ -1,6 +1,6 @@
-// Runs what document 01 says of states under "Points worked through" and "Errors that look right", a
-// line for each. The gate holds the output to the paper's figures. What is starred there is proved of
-// the definitions as well (`worked`).
+// Runs what document 01 says of states under "Points worked through" and "Errors that look right", and
+// states of nitrogen, a line for each. The gate holds the output to the paper's figures, and nitrogen's to
+// what its rules give. What is starred there is proved of the definitions as well (`worked`).
 use engine::Solution;
 use fluid::Reduced;
 use fluid::Reduction;
