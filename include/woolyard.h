@@ -1,4 +1,5 @@
-/* Woolyard: compressibility roots and densities of parahydrogen, oxygen and nitrogen, hydrogen's ideal heat capacity, and state sheets.
+/* Woolyard: compressibility roots and densities of parahydrogen, oxygen and nitrogen, hydrogen's ideal heat capacity, the excess
+ * viscosity factor of dense gas, and state sheets.
  *
  * Every function answers every input with a number: 0 for an answer, another for a refusal, named below. The caller checks nothing first.
  * Each is proved to answer what document 01 (rules and scope of the build) defines, as later requests amend it, and to write nothing but what is
@@ -27,6 +28,7 @@ extern "C" {
 #define WOOLYARD_SHEET_MALFORMED 6        /* sheet badly formed */
 #define WOOLYARD_SHEET_TOO_LONG 7         /* sheet longer than 65,536 bytes */
 #define WOOLYARD_NO_SUCH_SIDE 12          /* side is neither 0 nor 1 */
+#define WOOLYARD_DENSITY_OUT_OF_RANGE 15  /* reduced density below 100 or above 3000 thousandths */
 #define WOOLYARD_NO_SUCH_LINE 16          /* no state line of the number asked for */
 #define WOOLYARD_TEMPERATURE_TOO_LOW 21   /* below 14,000 mK for parahydrogen, 56,000 mK for oxygen, 64,000 mK for nitrogen */
 #define WOOLYARD_TEMPERATURE_TOO_HIGH 22  /* above 1,000,000 mK for every fluid */
@@ -87,6 +89,14 @@ uint64_t woolyard_side_with_book(uint64_t fluid, uint64_t millikelvin, uint64_t 
 /* Hydrogen's ideal heat capacity at a temperature in kelvin, any double at all: kJ/(kg K), equal bit for bit to Table 4 evaluated from A5
  * down, each operation rounded once. Answers 0, or 5 and leaves *heat alone: below 14, above 1000, an infinity or a NaN. */
 uint64_t woolyard_heat(double kelvin, double *heat);
+
+/* The excess viscosity factor of TM-564's equation (2.12-2), in millionths, at a reduced density in thousandths, any number at all: what
+ * that equation has in braces, (0.093324 x^4 - 0.40758 x^3 + 0.58533 x^2 + 0.23364 x + 1.0230)^4 - 1. The quartic is worked out exactly and
+ * rounded down to millionths; so is each of the two squares that make its fourth power. The equation's 1e-7 and its xi stay with the caller:
+ * *factor / 1e6 x 1e-7 / xi is by how many Pa s the viscosity is above that at low pressure. (For xi, 1 atm is 101325 Pa; the memorandum
+ * prints 1.013 x 10^6.) Answers 0, or 15 with *factor 0: below 100 or above 3000. Below 100 the formula can't be used, since at 0, where the
+ * excess should be none, it gives 95222 millionths. */
+uint64_t woolyard_viscosity(uint64_t thousandths, uint64_t *factor);
 
 /* Reads a whole sheet. Answers 0, 6 or 7; 7 comes before 6.
  *   reading[0]  the number of state lines, the sum of the three counts; 0 for a refused sheet

@@ -12,7 +12,7 @@ long write(int file, const void *bytes, unsigned long length);
  * of the function's. */
 enum { FUNCTION, FIRST, SECOND, THIRD, FOURTH, FIFTH, LENGTH, LENT_BYTES, PLACES, LENT = PLACES + 5 };
 
-enum { STATE, STATE_WITH_BOOK, SIDE, SIDE_WITH_BOOK, HEAT, SHEET, SHEET_LINE };
+enum { STATE, STATE_WITH_BOOK, SIDE, SIDE_WITH_BOOK, HEAT, VISCOSITY, SHEET, SHEET_LINE };
 
 #define WORDS 131072
 
@@ -50,6 +50,8 @@ static uint64_t make(size_t word)
                                        call[LENGTH], call + PLACES);
     case HEAT:
         return heat(call[FIRST], call + PLACES);
+    case VISCOSITY:
+        return woolyard_viscosity(call[FIRST], call + PLACES);
     case SHEET:
         return woolyard_sheet(lent, call[LENGTH], call + PLACES);
     default:

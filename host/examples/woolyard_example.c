@@ -1,5 +1,5 @@
-/* The header in use: a state, one side of it, the state with a book, another fluid, refusals, the heat capacity, a sheet and its lines, and
- * a faulty sheet. */
+/* The header in use: a state, one side of it, the state with a book, another fluid, refusals, the heat capacity, the excess viscosity factor,
+ * a sheet and its lines, and a faulty sheet. */
 #include "woolyard.h"
 #include <inttypes.h>
 #include <stdio.h>
@@ -47,6 +47,12 @@ int main(void)
     double heat = 0;
     if (woolyard_heat(300, &heat) == WOOLYARD_ANSWERED)
         printf("hydrogen at 300 K: %.6f kJ/(kg K)\n", heat);
+
+    uint64_t factor;
+    if (woolyard_viscosity(1500, &factor) == WOOLYARD_ANSWERED)
+        printf("at 1.500 of the critical density: excess viscosity factor %" PRIu64 " millionths\n", factor);
+    number = woolyard_viscosity(99, &factor);
+    printf("at 0.099 of it: reply %" PRIu64 "\n", number);
 
     static const char good[] = "1\n300000 1000000\n2\n120000 500000\n55999 500000\n1\n90000 300000\n";
     static const char faulty[] = "0\n1\n120000\n0\n";

@@ -16,9 +16,10 @@ woolyard.woolyard_state.argtypes = [c_uint64, c_uint64, c_uint64, Figures]
 woolyard.woolyard_state_with_book.argtypes = [c_uint64, c_uint64, c_uint64, c_uint64, Book, c_size_t, Figures]
 woolyard.woolyard_side.argtypes = [c_uint64, c_uint64, c_uint64, c_uint64, SideFigures]
 woolyard.woolyard_heat.argtypes = [c_double, ctypes.POINTER(c_double)]
+woolyard.woolyard_viscosity.argtypes = [c_uint64, ctypes.POINTER(c_uint64)]
 woolyard.woolyard_sheet.argtypes = [ctypes.c_char_p, c_size_t, Three]
 woolyard.woolyard_sheet_line.argtypes = [ctypes.c_char_p, c_size_t, c_uint64, Three]
-for name in ("state", "state_with_book", "side", "heat", "sheet", "sheet_line"):
+for name in ("state", "state_with_book", "side", "heat", "viscosity", "sheet", "sheet_line"):
     getattr(woolyard, f"woolyard_{name}").restype = c_uint64
 
 
@@ -64,6 +65,12 @@ print(f"oxygen at 55999 mK: reply {number}")
 heat = c_double()
 if woolyard.woolyard_heat(300, byref(heat)) == ANSWERED:
     print(f"hydrogen at 300 K: {heat.value:.6f} kJ/(kg K)")
+
+factor = c_uint64()
+if woolyard.woolyard_viscosity(1500, byref(factor)) == ANSWERED:
+    print(f"at 1.500 of the critical density: excess viscosity factor {factor.value} millionths")
+number = woolyard.woolyard_viscosity(99, byref(factor))
+print(f"at 0.099 of it: reply {number}")
 
 print_sheet(b"1\n300000 1000000\n2\n120000 500000\n55999 500000\n1\n90000 300000\n")
 print_sheet(b"0\n1\n120000\n0\n")

@@ -17,6 +17,12 @@ use Rattle.viscosity.proofs.Growth.{above-one, quartic-grows}
 use Rattle.viscosity.proofs.Squares.{squared-above-one, squared-grows}
 use Rattle.viscosity.proofs.Factors.{fourth-above-one, factor-of, factor-once}
 
+abbrev numberIn : ExcessFigures → ℕ
+numberIn figures = figures .number
+
+abbrev factorIn : ExcessFigures → ℕ
+factorIn figures = figures .factor
+
 -- ---- the contract fixes the reply, and every density has one
 pub factor-determined : {thousandths : ℕ} {figures other : ExcessFigures} → Replies thousandths figures → Replies thousandths other → figures ≡ other
 factor-determined (answers factor inside is told) (answers other inside′ is′ told′) = told ∙ ap answered (factor-once is is′) ∙ sym told′
@@ -25,9 +31,9 @@ factor-determined (refuses outside told) (answers other inside is told′) = abs
 factor-determined (refuses outside told) (refuses outside′ told′) = told ∙ sym told′
 
 pub figures-determine-reply : (reply other : ExcessFactor) → figuresOf reply ≡ figuresOf other → reply ≡ other
-figures-determine-reply (Millionths factor) (Millionths other) same = ap (λ (f : ExcessFigures). Millionths (f .factor)) same
-figures-determine-reply (Millionths factor) OutOfRange same = absurd (omega (arith, ap (λ (f : ExcessFigures). f .number) same))
-figures-determine-reply OutOfRange (Millionths other) same = absurd (omega (arith, ap (λ (f : ExcessFigures). f .number) same))
+figures-determine-reply (Millionths factor) (Millionths other) same = ap Millionths (ap factorIn same)
+figures-determine-reply (Millionths factor) OutOfRange same = absurd (omega (arith, ap numberIn same))
+figures-determine-reply OutOfRange (Millionths other) same = absurd (omega (arith, ap numberIn same))
 figures-determine-reply OutOfRange OutOfRange same = refl
 
 pub reply-determined : (thousandths : ℕ) (reply other : ExcessFactor) → Replies thousandths (figuresOf reply) → Replies thousandths (figuresOf other) → reply ≡ other
@@ -45,9 +51,9 @@ every-density-has-a-reply thousandths = by-ends (decLe thinnest thousandths) (de
     by-ends (yes from) (no above) = (OutOfRange, refuses (λ inside. above (inside .not-denser)) refl)
     by-ends (no below) to = (OutOfRange, refuses (λ inside. below (inside .not-thinner)) refl)
 
-pub refused-carries-zero : (reply : ExcessFactor) → (figuresOf reply .number ≡ 0 → ⊥) → figuresOf reply .factor ≡ 0
-refused-carries-zero (Millionths factor) refused = absurd (refused refl)
-refused-carries-zero OutOfRange refused = refl
+pub refused-carries-zero : {thousandths : ℕ} {figures : ExcessFigures} → Replies thousandths figures → (figures .number ≡ 0 → ⊥) → figures .factor ≡ 0
+refused-carries-zero (answers factor inside is told) refused = absurd (refused (ap numberIn told))
+refused-carries-zero (refuses outside told) refused = ap factorIn told
 
 -- ---- the factor, at any density by the formula
 pub factor-is-positive : {thousandths factor : ℕ} → Factor thousandths factor → 0 < factor

@@ -16,6 +16,8 @@ use Rattle.replies.proofs.Theorems.{refused-carries-zeros, refused-side-carries
 use Rattle.state.proofs.Theorems as state
 use Rattle.heat.specs.Replies.{numberOf}
 use Rattle.heat.proofs.Theorems as heat
+use Rattle.viscosity.specs.declared.replies.ExcessFigures.{ExcessFigures}
+use Rattle.viscosity.proofs.Theorems as viscosity
 use Rattle.readings.specs.declared.Reading.{Reading}
 use Rattle.readings.specs.declared.LineReading.{LineReading}
 use Rattle.readings.specs.Figures.{sheetFigures, lineFigures}
@@ -24,6 +26,7 @@ use Rattle.readings.proofs.Theorems as replies
 use Rattle.woolyard.specs.States.{fiveOf, Laid, StateAnswers, BookAnswers}
 use Rattle.woolyard.specs.Sides.{twoOf, SideLaid, SideAnswers, SideBookAnswers}
 use Rattle.woolyard.specs.Heats.{bitsAfter, HeatAnswers}
+use Rattle.woolyard.specs.Viscosities.{ViscosityAnswers}
 use Rattle.woolyard.specs.Sheets.{readingOf, SheetAnswers, stateOf, LineAnswers}
 
 -- One law for all calls: what two replies that are equal tell is equal.
@@ -100,6 +103,15 @@ pub heat-determined : (kelvin : Float) (before number number′ after after′ :
 heat-determined kelvin before number number′ after after′ p q =
     told-alike numberOf (bitsAfter before)
     (heat.reply-determined kelvin (p .reply) (q .reply) (p .answers) (q .answers)) (p .is-number) (q .is-number) (p .leaves) (q .leaves)
+
+-- ---- the viscosity
+pub viscosity-determined : (thousandths number number′ factor factor′ : ℕ) → ViscosityAnswers thousandths number factor → ViscosityAnswers thousandths number′ factor′ → (number ≡ number′) × (factor ≡ factor′)
+viscosity-determined thousandths number number′ factor factor′ p q =
+    let same = viscosity.factor-determined p q in
+    (ap (λ (f : ExcessFigures). f .number) same, ap (λ (f : ExcessFigures). f .factor) same)
+
+pub refused-viscosity-is-zero : {thousandths number factor : ℕ} → ViscosityAnswers thousandths number factor → (number ≡ 0 → ⊥) → factor ≡ 0
+refused-viscosity-is-zero p refused = viscosity.refused-carries-zero p refused
 
 -- ---- sheets
 module _ (bytes : List ℕ) where

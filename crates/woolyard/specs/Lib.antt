@@ -2,4 +2,5 @@
 pub mod States
 pub mod Sides
 pub mod Heats
+pub mod Viscosities
 pub mod Sheets

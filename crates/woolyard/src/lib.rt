@@ -6,6 +6,7 @@ mod layout;
 ghost use Rattle.woolyard.specs.States.{StateAnswers, BookAnswers};
 ghost use Rattle.woolyard.specs.Sides.{SideAnswers, SideBookAnswers};
 ghost use Rattle.woolyard.specs.Heats.{HeatAnswers};
+ghost use Rattle.woolyard.specs.Viscosities.{ViscosityAnswers};
 ghost use Rattle.woolyard.specs.Sheets.{SheetAnswers, LineAnswers};
 use crate::layout::faulty_line_length;
 use crate::layout::lay_figures;
@@ -89,6 +90,17 @@ pub extern "C" fn woolyard_heat(kelvin: f64, heat: &mut u64) -> u64
         }
         HeatCapacity::OutOfRange => number,
     }
+}
+
+// The excess viscosity factor of dense gas.
+#[no_mangle]
+pub extern "C" fn woolyard_viscosity(thousandths: u64, factor: &mut u64) -> u64
+    ensures { λ r. ⌜ ViscosityAnswers thousandths r (now (factor .exit)) ⌝ }
+{
+    let reply = viscosity::excess_factor(thousandths);
+    let told = reply.figures();
+    *factor = told.factor;
+    told.number
 }
 
 // A whole sheet: the array gets the number of its state lines, or the place and the length of its faulty

@@ -10,17 +10,19 @@ pub enum Function {
     Side = 2,
     SideWithBook = 3,
     Heat = 4,
-    Sheet = 5,
-    SheetLine = 6,
+    Viscosity = 5,
+    Sheet = 6,
+    SheetLine = 7,
 }
 
 /// The names in the header, in the order of the numbers.
-pub const NAMES: [&str; 7] = [
+pub const NAMES: [&str; 8] = [
     "woolyard_state",
     "woolyard_state_with_book",
     "woolyard_side",
     "woolyard_side_with_book",
     "woolyard_heat",
+    "woolyard_viscosity",
     "woolyard_sheet",
     "woolyard_sheet_line",
 ];
@@ -101,6 +103,10 @@ impl Call {
         Call::new(Function::Heat, [kelvin_pattern])
     }
 
+    pub fn viscosity(thousandths: u64) -> Call {
+        Call::new(Function::Viscosity, [thousandths])
+    }
+
     /// The first `length` bytes of `sheet` are the sheet.
     pub fn sheet(sheet: &[u8], length: usize) -> Call {
         Call {
@@ -134,7 +140,7 @@ impl fmt::Display for Call {
             _ => write!(text, "{:?}", self.places),
         }?;
         match self.function {
-            Function::State | Function::Side | Function::Heat => Ok(()),
+            Function::State | Function::Side | Function::Heat | Function::Viscosity => Ok(()),
             Function::StateWithBook | Function::SideWithBook => {
                 write!(text, ", book {:?}", self.book)
             }
@@ -159,6 +165,7 @@ impl Call {
                 format!("{state}, side {fourth}, slot {fifth}, book length {length}")
             }
             Function::Heat => format!("kelvin {first:#018x} or {}", f64::from_bits(first)),
+            Function::Viscosity => format!("thousandths {first}"),
             Function::Sheet => format!("length {length}"),
             Function::SheetLine => format!("length {length}, k {first}"),
         }

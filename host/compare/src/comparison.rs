@@ -127,6 +127,7 @@ mod tests {
         vec![
             Call::state(state),
             Call::heat(0),
+            Call::viscosity(1000),
             Call::sheet(b"0\n0\n0\n0", 6),
             Call::side_with_book(state, 1, 63, &[7; 195], 192),
             Call::state_with_book(state, 63, &[7; 195], 192),
@@ -174,6 +175,21 @@ mod tests {
         for change in changes {
             let told = outcome(side(), change).expect_err("a difference");
             assert!(told.contains("side 1, slot 63") && told.contains("[1699, 943832, "));
+        }
+    }
+
+    /// Of an answered factor and of one that is refused: in the number, and in the place.
+    #[test]
+    fn differences_of_a_factor() {
+        for thousandths in [1000, 99] {
+            let viscosity = || vec![Call::viscosity(thousandths)];
+            assert_eq!(outcome(viscosity(), |_| ()), Ok(()));
+            let changes: [fn(&mut Call); 2] =
+                [|call| call.number ^= 15, |call| call.places[0] += 1];
+            for change in changes {
+                let told = outcome(viscosity(), change).expect_err("a difference");
+                assert!(told.contains(&format!("(thousandths {thousandths}) over")));
+            }
         }
     }
 

@@ -29,6 +29,7 @@ fn make(call: &mut Call) {
             boundary::side_with_book(first, second, third, fourth, fifth, book, figures)
         }
         Function::Heat => heat(first, &mut call.places[0]),
+        Function::Viscosity => boundary::viscosity(first, &mut call.places[0]),
         Function::Sheet => boundary::sheet(&call.sheet[..call.length], first_of(&mut call.places)),
         Function::SheetLine => {
             let sheet = &call.sheet[..call.length];

@@ -6,6 +6,7 @@ mod sheets;
 mod sides;
 mod split;
 mod states;
+mod viscosities;
 
 use crate::comparison::{Comparison, Outcome};
 use crate::workers::Unit;
@@ -44,6 +45,7 @@ const NO_SIDES: [u64; 6] = [2, 3, 1 << 32, (1 << 32) + 1, 1 << 63, u64::MAX];
 /// The quick parts first.
 pub fn units() -> Vec<Unit> {
     let mut units = doubles::units();
+    units.extend(viscosities::units());
     units.extend(sheets::units());
     units.extend(sides::units());
     units.extend(books::units());

@@ -5,6 +5,7 @@ use crate::call::{Call, Function};
 use second::heat::heat_capacity;
 use second::sheet::{self, Refusal};
 use second::state::{put_into_book, put_side_into_book, reply, side_of, Reply, SideReply};
+use second::viscosity::excess_factor;
 use std::collections::HashMap;
 use std::io;
 
@@ -26,6 +27,7 @@ impl Boundary for Second {
                 Function::Side => self.side(call),
                 Function::SideWithBook => self.side_with_book(call),
                 Function::Heat => heat(call),
+                Function::Viscosity => viscosity(call),
                 Function::Sheet => whole_sheet(call),
                 Function::SheetLine => sheet_line(call),
             }
@@ -92,6 +94,14 @@ fn heat(call: &mut Call) {
             0
         }
         Err(number) => number,
+    };
+}
+
+/// Where it is refused the place is 0.
+fn viscosity(call: &mut Call) {
+    (call.number, call.places[0]) = match excess_factor(call.arguments[0]) {
+        Ok(factor) => (0, factor),
+        Err(number) => (number, 0),
     };
 }
 

@@ -9,3 +9,4 @@ pub mod random;
 pub mod sheet;
 pub mod sheet_list;
 pub mod state;
+pub mod viscosity;

@@ -61,6 +61,12 @@ fn main() -> Result<(), Refusal> {
 
     println!("hydrogen at 300 K: {:.6} kJ/(kg K)", woolyard::heat(300.0)?);
 
+    let factor = woolyard::viscosity(1500)?;
+    println!("at 1.500 of the critical density: excess viscosity factor {factor} millionths");
+    if let Err(refusal) = woolyard::viscosity(99) {
+        println!("at 0.099 of it: reply {}", refusal.number());
+    }
+
     print_sheet(b"1\n300000 1000000\n2\n120000 500000\n55999 500000\n1\n90000 300000\n");
     print_sheet(b"0\n1\n120000\n0\n");
     Ok(())

@@ -1,4 +1,4 @@
-//! The seven functions of include/woolyard.h, as they are: numbers in, the reply's number out, and the
+//! The eight functions of include/woolyard.h, as they are: numbers in, the reply's number out, and the
 //! figures in the places that the caller lends. All that is unsafe stands here.
 //!
 //! The header asks that a pointer points to as many elements as its array or its length says, that it
@@ -49,6 +49,7 @@ mod foreign {
             figures: *mut [u64; super::SIDE_FIGURES],
         ) -> u64;
         pub fn woolyard_heat(kelvin: f64, heat: *mut f64) -> u64;
+        pub fn woolyard_viscosity(thousandths: u64, factor: *mut u64) -> u64;
         pub fn woolyard_sheet(sheet: *const u8, length: usize, reading: *mut [u64; 3]) -> u64;
         pub fn woolyard_sheet_line(
             sheet: *const u8,
@@ -130,6 +131,13 @@ pub fn side_with_book(
 pub fn heat(kelvin: f64, heat: &mut f64) -> u64 {
     // SAFETY: `heat` is the one place that is written, and nothing else is lent.
     unsafe { foreign::woolyard_heat(kelvin, heat) }
+}
+
+/// `woolyard_viscosity`: any number at all; where it is refused, `factor` is 0.
+#[inline]
+pub fn viscosity(thousandths: u64, factor: &mut u64) -> u64 {
+    // SAFETY: `factor` is the one place that is written, and nothing else is lent.
+    unsafe { foreign::woolyard_viscosity(thousandths, factor) }
 }
 
 /// `woolyard_sheet`: the number of state lines, the place and the length of the faulty line.

@@ -1,5 +1,5 @@
 //! Woolyard: compressibility roots and densities of parahydrogen, oxygen and nitrogen, hydrogen's ideal
-//! heat capacity, and state sheets.
+//! heat capacity, the excess viscosity factor of dense gas, and state sheets.
 //!
 //! Safe Rust over `libwoolyard.a`, whose functions are proved to answer what document 01 (rules and
 //! scope of the build) defines, as later requests amend it. Every function answers every input, and
@@ -110,6 +110,23 @@ pub fn heat(kelvin: f64) -> Result<f64, Refusal> {
     let mut heat = 0.0;
     Refusal::check(boundary::heat(kelvin, &mut heat))?;
     Ok(heat)
+}
+
+/// The excess viscosity factor of TM-564's equation (2.12-2), in millionths, at a reduced density in
+/// thousandths, any number at all: what the equation has in braces, worked out exactly and rounded down three
+/// times. Its 1e-7 and its xi stay with the caller. Below 100, where the formula can't be used, and above 3000
+/// it is refusal 15.
+///
+/// ```
+/// use woolyard::Refusal;
+///
+/// assert_eq!(woolyard::viscosity(1000), Ok(4_447_135));
+/// assert_eq!(woolyard::viscosity(99), Err(Refusal::DensityOutOfRange));
+/// ```
+pub fn viscosity(thousandths: u64) -> Result<u64, Refusal> {
+    let mut factor = 0;
+    Refusal::check(boundary::viscosity(thousandths, &mut factor))?;
+    Ok(factor)
 }
 
 /// Reads a whole sheet: the number of state lines, which is the sum of the three counts. The faulty line

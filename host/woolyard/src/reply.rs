@@ -104,13 +104,14 @@ pub enum Refusal {
     NoSuchSide = 12,
     NoSuchSlot = 4,
     HeatOutOfRange = 5,
+    DensityOutOfRange = 15,
     SheetMalformed = 6,
     SheetTooLong = 7,
     NoSuchLine = 16,
 }
 
 impl Refusal {
-    const ALL: [Refusal; 11] = [
+    const ALL: [Refusal; 12] = [
         Refusal::NoSuchFluid,
         Refusal::TemperatureTooLow,
         Refusal::TemperatureTooHigh,
@@ -119,6 +120,7 @@ impl Refusal {
         Refusal::NoSuchSide,
         Refusal::NoSuchSlot,
         Refusal::HeatOutOfRange,
+        Refusal::DensityOutOfRange,
         Refusal::SheetMalformed,
         Refusal::SheetTooLong,
         Refusal::NoSuchLine,
@@ -150,6 +152,7 @@ impl fmt::Display for Refusal {
             Refusal::NoSuchSide => "side is neither 0 nor 1",
             Refusal::NoSuchSlot => "book not of 192 bytes, or slot above 63",
             Refusal::HeatOutOfRange => "heat-capacity temperature not a number in 14 to 1000 K",
+            Refusal::DensityOutOfRange => "reduced density below 100 or above 3000 thousandths",
             Refusal::SheetMalformed => "sheet badly formed",
             Refusal::SheetTooLong => "sheet longer than 65,536 bytes",
             Refusal::NoSuchLine => "no state line of the number asked for",

@@ -1,4 +1,4 @@
-//! Document 01, "Points worked through" and "State sheets", and document 02, C-18 to C-20.
+//! Document 01, "Points worked through" and "State sheets", and document 02, C-18 to C-20 and C-24.
 
 use super::*;
 
@@ -220,6 +220,20 @@ fn heat_capacities() {
     assert_ne!(heat(40.0_f64.next_up()), Ok(10.3121));
     for kelvin in [14.0_f64.next_down(), 1000.0_f64.next_up(), f64::NAN] {
         assert_eq!(heat(kelvin), Err(Refusal::HeatOutOfRange));
+    }
+}
+
+#[test]
+fn excess_viscosity_factors() {
+    assert_eq!(viscosity(100), Ok(223_950));
+    assert_eq!(viscosity(1000), Ok(4_447_135));
+    assert_eq!(viscosity(3000), Ok(157_192_927));
+    // the last but one is 1000 to whoever keeps 32 bits
+    for thousandths in [0, 99, 3001, (1 << 32) + 1000, u64::MAX] {
+        assert_eq!(viscosity(thousandths), Err(Refusal::DensityOutOfRange));
+        let mut factor = 7;
+        assert_eq!(boundary::viscosity(thousandths, &mut factor), 15);
+        assert_eq!(factor, 0);
     }
 }
 
