@@ -1,10 +1,9 @@
 -- Every density has a factor by the formula, in the range or not, and one only; it is what the halves and two squares come to. Assumes nothing.
-use mathlib.Core.Path.{_≡_, sym, ap, _∙_}
-use Prim.Native.Nat.{ℕ, _+_, _*_, _-_, _/_, _≤_, _<_}
+use mathlib.Core.Path.{_≡_, ap, _∙_}
+use Prim.Native.Nat.{ℕ, _-_, _<_}
 use native.Mathlib.Omega.{arith}
-use Rattle.viscosity.specs.Quartic.{denominator}
 use Rattle.viscosity.specs.Factor.{million, squared, Factor}
-use Rattle.viscosity.specs.Inside.{added, taken, quotient}
+use Rattle.viscosity.specs.Inside.{quotient}
 use Rattle.viscosity.proofs.Halves.{taken-fits, Between, between, rounded-down}
 use Rattle.viscosity.proofs.Growth.{above-one}
 use Rattle.viscosity.proofs.Squares.{squared-above-one}

@@ -1,11 +1,10 @@
 -- The one law that ties the signed quartic of the paper to its halves over naturals. After this file nothing is signed. Assumes nothing.
 use mathlib.Core.Path.{_≡_, sym, ap, _∙_}
-use Prim.Native.Nat.{ℕ, _+_, _*_, _-_, _/_, _≤_, _<_}
+use Prim.Native.Nat.{ℕ, _+_, _*_, _-_, _≤_, _<_}
 use native.Mathlib.Nat.{mul-le-mul-right}
 use native.Mathlib.Omega.{arith}
 use lib.Dec.{leb→le, le→leb, ltb→lt, lt→ltb}
 use lib.IntN.{ℤ, pos, negℤ, _+ℤ_, _-ℤ_, +ℤ-assoc, +ℤ-comm, +ℤ-negℤ-cancel}
-use lib.Signed.{_≤ℤ_, _<ℤ_}
 use Rattle.numbers.proofs.Squares.{twice-product}
 use Rattle.viscosity.specs.Quartic.{polynomial, numerator, denominator, RoundedDown}
 use Rattle.viscosity.specs.Inside.{added, taken}

@@ -1,5 +1,5 @@
 -- The squares in millionths of a number above 1: they are above 1, and they grow with it. Assumes nothing.
-use Prim.Native.Nat.{ℕ, _+_, _*_, _/_, _≤_, _<_}
+use Prim.Native.Nat.{ℕ, _*_, _≤_, _<_}
 use native.Mathlib.Nat.{mul-le-mul, div-mul-le-self, le-refl}
 use native.Mathlib.Omega.{arith}
 use Rattle.numbers.proofs.Quotients.{quotient-from, quotient-rises}
