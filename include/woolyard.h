@@ -27,6 +27,7 @@ extern "C" {
 #define WOOLYARD_HEAT_OUT_OF_RANGE 5      /* heat-capacity temperature not a number in 14 to 1000 K */
 #define WOOLYARD_SHEET_MALFORMED 6        /* sheet badly formed */
 #define WOOLYARD_SHEET_TOO_LONG 7         /* sheet longer than 65,536 bytes */
+#define WOOLYARD_WALK_CUT_SHORT 11        /* the limit of values is below what the walk needs */
 #define WOOLYARD_NO_SUCH_SIDE 12          /* side is neither 0 nor 1 */
 #define WOOLYARD_DENSITY_OUT_OF_RANGE 15  /* reduced density below 100 or above 3000 thousandths */
 #define WOOLYARD_NO_SUCH_LINE 16          /* no state line of the number asked for */
@@ -60,6 +61,13 @@ extern "C" {
 #define WOOLYARD_ROOT 0     /* the gas root or the dense root */
 #define WOOLYARD_DENSITY 1  /* of that root */
 
+/* Where the figures of a walk lie. */
+#define WOOLYARD_WALK_ROOT 0    /* the gas root */
+#define WOOLYARD_WALK_VALUES 1  /* how many values of the cubic were worked out */
+
+/* A limit with which no walk is cut short. */
+#define WOOLYARD_WALK_ENOUGH 100001
+
 /* How many bytes a book has, and how many a sheet may have. */
 #define WOOLYARD_BOOK_BYTES 192
 #define WOOLYARD_SHEET_MOST_BYTES 65536
@@ -85,6 +93,13 @@ uint64_t woolyard_side(uint64_t fluid, uint64_t millikelvin, uint64_t pascals, u
  * Answers 0, 1, 21, 22, 31, 32, 12 or 4; the first refusal in this order that applies is given. */
 uint64_t woolyard_side_with_book(uint64_t fluid, uint64_t millikelvin, uint64_t pascals, uint64_t side, uint64_t slot, uint8_t *book,
                                  size_t book_length, uint64_t figures[2]);
+
+/* The gas root of a state found the slow way: the cubic is worked out at N + b, where N is 100,000, and then at one place below after another,
+ * until its value is not positive. That place is the gas root of woolyard_state. The limit may be any number, and no more values than it says
+ * are worked out. Answers 0, 1, 21, 22, 31, 32 or 11; the first refusal in this order that applies is given.
+ *   walked[0]  the gas root z; 0 where refused
+ *   walked[1]  how many values were worked out: 0: N + b - z + 1; 11: the limit, which is below that; 0 for any other refusal */
+uint64_t woolyard_walk(uint64_t fluid, uint64_t millikelvin, uint64_t pascals, uint64_t limit, uint64_t walked[2]);
 
 /* Hydrogen's ideal heat capacity at a temperature in kelvin, any double at all: kJ/(kg K), equal bit for bit to Table 4 evaluated from A5
  * down, each operation rounded once. Answers 0, or 5 and leaves *heat alone: below 14, above 1000, an infinity or a NaN. */

@@ -1,5 +1,5 @@
-/* The header in use: a state, one side of it, the state with a book, another fluid, refusals, the heat capacity, the excess viscosity factor,
- * a sheet and its lines, and a faulty sheet. */
+/* The header in use: a state, one side of it, the state with a book, another fluid, a walk, refusals, the heat capacity, the excess
+ * viscosity factor, a sheet and its lines, and a faulty sheet. */
 #include "woolyard.h"
 #include <inttypes.h>
 #include <stdio.h>
@@ -40,6 +40,13 @@ int main(void)
     number = woolyard_side(WOOLYARD_NITROGEN, 300000, 1000000, WOOLYARD_GAS, side_figures);
     printf("nitrogen at 300000 mK and 1000000 Pa: reply %" PRIu64 ", root %" PRIu64 ", %" PRIu64 " g/m3\n", number,
            side_figures[WOOLYARD_ROOT], side_figures[WOOLYARD_DENSITY]);
+
+    uint64_t walked[2];
+    number = woolyard_walk(WOOLYARD_OXYGEN, 120000, 500000, WOOLYARD_WALK_ENOUGH, walked);
+    printf("oxygen at 120000 mK and 500000 Pa, walked: reply %" PRIu64 ", gas root %" PRIu64 " after %" PRIu64 " values\n", number,
+           walked[WOOLYARD_WALK_ROOT], walked[WOOLYARD_WALK_VALUES]);
+    number = woolyard_walk(WOOLYARD_OXYGEN, 120000, 500000, 8410, walked);
+    printf("with a limit of 8410: reply %" PRIu64 "\n", number);
 
     number = woolyard_state(WOOLYARD_OXYGEN, 55999, 500000, figures);
     printf("oxygen at 55999 mK: reply %" PRIu64 "\n", number);

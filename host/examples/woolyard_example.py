@@ -8,18 +8,19 @@ import sys
 from ctypes import byref, c_double, c_size_t, c_uint8, c_uint64
 
 ANSWERED, SHEET_MALFORMED = 0, 6
-OXYGEN, NITROGEN, GAS, DENSE, KIND_SPLIT, BOOK_BYTES = 1, 2, 0, 1, 2, 192
+OXYGEN, NITROGEN, GAS, DENSE, KIND_SPLIT, BOOK_BYTES, WALK_ENOUGH = 1, 2, 0, 1, 2, 192, 100001
 
 woolyard = ctypes.CDLL(sys.argv[1])
-Figures, SideFigures, Three, Book = c_uint64 * 5, c_uint64 * 2, c_uint64 * 3, c_uint8 * BOOK_BYTES
+Figures, SideFigures, Walked, Three, Book = c_uint64 * 5, c_uint64 * 2, c_uint64 * 2, c_uint64 * 3, c_uint8 * BOOK_BYTES
 woolyard.woolyard_state.argtypes = [c_uint64, c_uint64, c_uint64, Figures]
 woolyard.woolyard_state_with_book.argtypes = [c_uint64, c_uint64, c_uint64, c_uint64, Book, c_size_t, Figures]
 woolyard.woolyard_side.argtypes = [c_uint64, c_uint64, c_uint64, c_uint64, SideFigures]
+woolyard.woolyard_walk.argtypes = [c_uint64, c_uint64, c_uint64, c_uint64, Walked]
 woolyard.woolyard_heat.argtypes = [c_double, ctypes.POINTER(c_double)]
 woolyard.woolyard_viscosity.argtypes = [c_uint64, ctypes.POINTER(c_uint64)]
 woolyard.woolyard_sheet.argtypes = [ctypes.c_char_p, c_size_t, Three]
 woolyard.woolyard_sheet_line.argtypes = [ctypes.c_char_p, c_size_t, c_uint64, Three]
-for name in ("state", "state_with_book", "side", "heat", "viscosity", "sheet", "sheet_line"):
+for name in ("state", "state_with_book", "side", "walk", "heat", "viscosity", "sheet", "sheet_line"):
     getattr(woolyard, f"woolyard_{name}").restype = c_uint64
 
 
@@ -58,6 +59,13 @@ print(f"with a book: reply {number}, and slot 5 holds {int.from_bytes(book[15:18
 number = woolyard.woolyard_side(NITROGEN, 300000, 1000000, GAS, side_figures)
 root, density = side_figures
 print(f"nitrogen at 300000 mK and 1000000 Pa: reply {number}, root {root}, {density} g/m3")
+
+walked = Walked()
+number = woolyard.woolyard_walk(OXYGEN, 120000, 500000, WALK_ENOUGH, walked)
+root, values = walked
+print(f"oxygen at 120000 mK and 500000 Pa, walked: reply {number}, gas root {root} after {values} values")
+number = woolyard.woolyard_walk(OXYGEN, 120000, 500000, 8410, walked)
+print(f"with a limit of 8410: reply {number}")
 
 number = woolyard.woolyard_state(OXYGEN, 55999, 500000, figures)
 print(f"oxygen at 55999 mK: reply {number}")

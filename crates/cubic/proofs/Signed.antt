@@ -10,15 +10,15 @@ use lib.IntN.{ℤ, pos, negsuc, negℤ, subℕ, _+ℤ_, _*ℤ_}
 use Rattle.cubic.specs.Cubic.{N, polynomial, g, Positive}
 use Rattle.cubic.specs.Sides.{plus, minus}
 
-abbrev Differ : ℤ → ℕ → ℕ → Type 0
+abbrev pub Differ : ℤ → ℕ → ℕ → Type 0
 Differ (pos n) x y = n + y ≡ x
 Differ (negsuc n) x y = x + suc n ≡ y
 
 -- the signed number i is x less y
-record Less (i : ℤ) (x y : ℕ) : Type 0 where
-  differ : Differ i x y
+pub record Less (i : ℤ) (x y : ℕ) : Type 0 where
+  pub differ : Differ i x y
 
-whole : (n : ℕ) → Less (pos n) n 0
+pub whole : (n : ℕ) → Less (pos n) n 0
 whole n = omega arith
 
 less : (m n : ℕ) → Less (subℕ m n) m n
@@ -33,18 +33,18 @@ moved : {i : ℤ} {x y v w : ℕ} → Less i x y → x + w ≡ v + y → Less i 
 moved {i = pos n} h e = omega arith
 moved {i = negsuc n} h e = omega arith
 
-sum : {i j : ℤ} {x y v w : ℕ} → Less i x y → Less j v w → Less (i +ℤ j) (x + v) (y + w)
+pub sum : {i j : ℤ} {x y v w : ℕ} → Less i x y → Less j v w → Less (i +ℤ j) (x + v) (y + w)
 sum {i = pos m} {j = pos n} h k = omega arith
 sum {i = pos m} {j = negsuc n} h k = moved (less m (suc n)) (omega arith)
 sum {i = negsuc m} {j = pos n} h k = moved (less n (suc m)) (omega arith)
 sum {i = negsuc m} {j = negsuc n} h k = omega arith
 
-opposite : {i : ℤ} {x y : ℕ} → Less i x y → Less (negℤ i) y x
+pub opposite : {i : ℤ} {x y : ℕ} → Less i x y → Less (negℤ i) y x
 opposite {i = pos zero} h = omega arith
 opposite {i = pos (suc n)} h = omega arith
 opposite {i = negsuc n} h = omega arith
 
-scaled : {i : ℤ} {x y : ℕ} (z : ℕ) → Less i x y → Less (i *ℤ pos z) (x * z) (y * z)
+pub scaled : {i : ℤ} {x y : ℕ} (z : ℕ) → Less i x y → Less (i *ℤ pos z) (x * z) (y * z)
 scaled {i = pos n} z h = record { differ = omega (arith, ap (λ (t : ℕ). t * z) (h .differ)) }
 scaled {i = negsuc n} z h = moved (opposite (whole (suc n * z))) (omega (arith, ap (λ (t : ℕ). t * z) (h .differ)))
 

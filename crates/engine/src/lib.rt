@@ -4,9 +4,9 @@ mod shortcuts;
 
 ghost use Rattle.engine.specs.Promise.{Solves};
 use crate::shortcuts::alone;
-use searches::BEND;
-use searches::LARGEST_A;
-use searches::LARGEST_B;
+use cubic::BEND;
+use cubic::LARGEST_A;
+use cubic::LARGEST_B;
 use searches::dense_crossing;
 use searches::gas_crossing;
 

@@ -5,8 +5,8 @@ ghost use Prim.Native.Nat.{_-_};
 ghost use Rattle.cubic.specs.Cubic.{N};
 ghost use Rattle.cubic.specs.Promise.{Within};
 ghost use Rattle.cubic.specs.Sides.{FallsTo, Alone};
-use searches::BEND;
-use searches::GRID;
+use cubic::BEND;
+use cubic::GRID;
 
 // N less a place, and 0 from N on.
 fn left_to_grid(z: u64) -> u64

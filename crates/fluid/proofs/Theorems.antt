@@ -91,7 +91,7 @@ reduction-back (Reduction.To fluid reduced) = refl
 reduction-back (Reduction.Refused refusal) = ap Reduction.Refused (refusal-of-number refusal)
 
 module _ (number millikelvin pascals : ℕ) where
-  reached-once : (r s : Reached) → Reaches number millikelvin pascals r → Reaches number millikelvin pascals s → r ≡ s
+  pub reached-once : (r s : Reached) → Reaches number millikelvin pascals r → Reaches number millikelvin pascals s → r ≡ s
   reached-once r s p q =
       let same-fluid : r .fluid ≡ s .fluid = number-determines-fluid (r .fluid) (s .fluid) (sym (p .is-number) ∙ q .is-number) in
       let same-reduced : r .reduced ≡ s .reduced = reduced-determined (s .fluid) millikelvin pascals (r .reduced) (s .reduced) (rw same-fluid at (p .reduces)) (q .reduces) in

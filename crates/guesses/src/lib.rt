@@ -2,17 +2,10 @@
 // but that it lies on the gas side of the bend: another formula would change a time and no answer.
 ghost use Rattle.cubic.specs.Promise.{Within};
 ghost use Rattle.cubic.specs.Sides.{GasSide};
-
-// The grid N of document 01, and the place a third up at which g bends.
-pub const GRID: u64 = 100_000;
-
-pub const BEND: u64 = 33_333;
-
-// Bounds within which every value worked out stays below 2^64 (specs/Promise.antt of `cubic` says what they
-// hold).
-pub const LARGEST_A: u64 = 20_000_000;
-
-pub const LARGEST_B: u64 = 1_000_000;
+use cubic::BEND;
+use cubic::GRID;
+use cubic::LARGEST_A;
+use cubic::LARGEST_B;
 
 // Near the gas root and hardly ever below it. The root z lies below N + b by w, with w z (z + b) equal to
 // N a (z - b). So w is about N N a over (N + b) (N + 2 b), and in the next order N N a over that divisor

@@ -1,14 +1,33 @@
--- None of a list applies or one is the first; and a list of checks behind another, as a call with a book has behind that of a call without.
--- Assumes nothing.
+-- None of a list applies or one is the first, and that one's number is on the list; and a list of checks behind another, as a call with a book has
+-- behind that of a call without. Assumes nothing.
+use mathlib.Core.Path.{_≡_, refl, sym, subst, _∙_}
 use mathlib.Core.Logic.{inl, inr}
+use mathlib.Core.Bool.{Bool, true, false, cond}
 use mathlib.Core.List.{List, [], _∷_, _++_}
 use Prim.Native.Nat.{ℕ}
+use borrow.Author.Tests.{eqb-false}
+use lib.Dec.{T, eqb}
 use Rattle.refusals.specs.Checks.{Check, NoneOf, FirstOf, Tells, refuses, answers}
 
 pub none-or-first : (checks : List Check) (refusal : ℕ) → NoneOf checks → FirstOf checks refusal → ⊥
 none-or-first [] refusal none first = first
 none-or-first (check ∷ checks) refusal none (inl here) = none .0 (here .0)
 none-or-first (check ∷ checks) refusal none (inr later) = none-or-first checks refusal (none .1) (later .1)
+
+-- whether a check has the number, which computes where the numbers are written out, however many there are
+abbrev pub hasNumber : (number : ℕ) → List Check → Bool
+hasNumber number [] = false
+hasNumber number (check ∷ checks) = cond (eqb (check .number) number) true (hasNumber number checks)
+
+pub number-on-list : (number : ℕ) (checks : List Check) (refusal : ℕ) → hasNumber number checks ≡ false → FirstOf checks refusal → refusal ≡ number → ⊥
+number-on-list number [] refusal without first same = first
+number-on-list number (check ∷ checks) refusal without first same =
+    by-test (eqb (check .number) number) refl without first (λ without later. number-on-list number checks refusal without later same)
+  where
+    by-test : (t : Bool) → eqb (check .number) number ≡ t → cond t true (hasNumber number checks) ≡ false → FirstOf (check ∷ checks) refusal → (hasNumber number checks ≡ false → FirstOf checks refusal → ⊥) → ⊥
+    by-test true is-here without first behind = subst T without tt
+    by-test false not-here without (inl here) behind = eqb-false (check .number) number not-here (sym (here .1) ∙ same)
+    by-test false not-here without (inr later) behind = behind without (later .1)
 
 pub none-both : (checks more : List Check) → NoneOf checks → NoneOf more → NoneOf (checks ++ more)
 none-both [] more none none-more = none-more

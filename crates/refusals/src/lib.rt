@@ -11,6 +11,7 @@ pub enum Refusal {
     PressureTooHigh,
     NoSuchSide,
     NoSuchSlot,
+    WalkCutShort,
 }
 
 impl Refusal {
@@ -25,6 +26,7 @@ impl Refusal {
             Refusal::PressureTooHigh => 32,
             Refusal::NoSuchSide => 12,
             Refusal::NoSuchSlot => 4,
+            Refusal::WalkCutShort => 11,
         }
     }
 }

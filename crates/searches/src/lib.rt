@@ -10,10 +10,8 @@ use crate::newton::climb;
 use crate::newton::fall;
 use crate::starts::crosses;
 use crate::starts::gas_side;
-pub use guesses::BEND;
-pub use guesses::GRID;
-pub use guesses::LARGEST_A;
-pub use guesses::LARGEST_B;
+use cubic::LARGEST_A;
+use cubic::LARGEST_B;
 
 // The crossing at the bend or above, the place below the bend if there is none, and 0 where a or b is out of
 // bounds. A start that is that crossing spares the search, and any other is forgotten.

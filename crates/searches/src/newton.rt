@@ -8,8 +8,8 @@ use crate::sides::BELOW_BEND;
 use crate::sides::minus;
 use crate::sides::plus;
 use crate::sides::rise;
-use guesses::BEND;
-use guesses::GRID;
+use cubic::BEND;
+use cubic::GRID;
 use guesses::nearer;
 
 // A place from which g is positive for good, with what a step down from it asks: by how much g rises to

@@ -5,8 +5,8 @@ ghost use Prim.Native.Nat.{_≤_};
 ghost use Rattle.cubic.specs.Promise.{largestA, Within};
 ghost use Rattle.cubic.specs.Sides.{farthest};
 ghost use Rattle.cubic.specs.Sides.{plus as Sides·plus, minus as Sides·minus, rise as Sides·rise};
-use guesses::BEND;
-use guesses::GRID;
+use cubic::BEND;
+use cubic::GRID;
 
 pub(crate) const BELOW_BEND: u64 = BEND - 1;
 

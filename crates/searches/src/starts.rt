@@ -7,8 +7,8 @@ ghost use Rattle.cubic.specs.Promise.{largestB, Within};
 ghost use Rattle.cubic.specs.Sides.{GasSide, Crosses};
 use crate::sides::minus;
 use crate::sides::plus;
-use guesses::BEND;
-use guesses::GRID;
+use cubic::BEND;
+use cubic::GRID;
 
 // The customer's start, and the bend for one that lies where no gas root can.
 pub(crate) fn gas_side(b: u64, start: u64) -> u64

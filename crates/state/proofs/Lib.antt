@@ -4,4 +4,5 @@ pub mod Determined
 pub mod Existence
 pub mod Sharing
 pub mod Theorems
+pub mod Walks
 pub mod Finer

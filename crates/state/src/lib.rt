@@ -17,6 +17,9 @@ pub use replies::Reply;
 pub use replies::SideFigures;
 pub use replies::SideReply;
 use roots::Finding;
+pub use walks::WalkFigures;
+pub use walks::WalkReply;
+pub use walks::walk;
 
 // Without a book: the search begins with no starting point.
 pub fn ask(fluid: u64, millikelvin: u64, pascals: u64) -> Reply

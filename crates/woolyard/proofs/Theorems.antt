@@ -14,6 +14,8 @@ use Rattle.replies.specs.declared.sides.SideFigures.{SideFigures}
 use Rattle.replies.specs.Sides.{sideFiguresOf}
 use Rattle.replies.proofs.Theorems.{refused-carries-zeros, refused-side-carries-zeros}
 use Rattle.state.proofs.Theorems as state
+use Rattle.walks.specs.declared.replies.WalkFigures.{WalkFigures}
+use Rattle.walks.proofs.Theorems as walks
 use Rattle.heat.specs.Replies.{numberOf}
 use Rattle.heat.proofs.Theorems as heat
 use Rattle.viscosity.specs.declared.replies.ExcessFigures.{ExcessFigures}
@@ -25,6 +27,7 @@ use Rattle.readings.specs.Replies.{shown}
 use Rattle.readings.proofs.Theorems as replies
 use Rattle.woolyard.specs.States.{fiveOf, Laid, StateAnswers, BookAnswers}
 use Rattle.woolyard.specs.Sides.{twoOf, SideLaid, SideAnswers, SideBookAnswers}
+use Rattle.woolyard.specs.Walks.{walkedOf, WalkAnswers}
 use Rattle.woolyard.specs.Heats.{bitsAfter, HeatAnswers}
 use Rattle.woolyard.specs.Viscosities.{ViscosityAnswers}
 use Rattle.woolyard.specs.Sheets.{readingOf, SheetAnswers, stateOf, LineAnswers}
@@ -97,6 +100,13 @@ pub refused-side-changes-no-book : {fluid millikelvin pascals side slot number :
 refused-side-changes-no-book p refused =
     state.refused-changes-nothing
     (λ answered. refused (p .laid .is-number ∙ ap (λ (f : SideFigures). f .number) (p .called .is-told) ∙ answered)) (p .called .holds)
+
+-- ---- walks
+module _ (fluid millikelvin pascals limit : ℕ) where
+  pub walk-determined : {number number′ : ℕ} {walked walked′ : List ℕ} → WalkAnswers fluid millikelvin pascals limit number walked → WalkAnswers fluid millikelvin pascals limit number′ walked′ → (number ≡ number′) × (walked ≡ walked′)
+  walk-determined p q =
+      told-alike (λ (f : WalkFigures). f .number) walkedOf
+      (walks.told-once fluid millikelvin pascals limit (p .figures) (q .figures) (p .replies) (q .replies)) (p .is-number) (q .is-number) (p .is-walked) (q .is-walked)
 
 -- ---- the heat capacity
 pub heat-determined : (kelvin : Float) (before number number′ after after′ : ℕ) → HeatAnswers kelvin before number after → HeatAnswers kelvin before number′ after′ → (number ≡ number′) × (after ≡ after′)

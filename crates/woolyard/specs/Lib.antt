@@ -1,6 +1,7 @@
 -- What a reader must believe of the boundary: which of a reply's figures lie where in what the caller lent.
 pub mod States
 pub mod Sides
+pub mod Walks
 pub mod Heats
 pub mod Viscosities
 pub mod Sheets

@@ -5,6 +5,7 @@ mod layout;
 
 ghost use Rattle.woolyard.specs.States.{StateAnswers, BookAnswers};
 ghost use Rattle.woolyard.specs.Sides.{SideAnswers, SideBookAnswers};
+ghost use Rattle.woolyard.specs.Walks.{WalkAnswers};
 ghost use Rattle.woolyard.specs.Heats.{HeatAnswers};
 ghost use Rattle.woolyard.specs.Viscosities.{ViscosityAnswers};
 ghost use Rattle.woolyard.specs.Sheets.{SheetAnswers, LineAnswers};
@@ -73,6 +74,23 @@ pub extern "C" fn woolyard_side_with_book(
 {
     let reply = state::ask_side_with_book(fluid, millikelvin, pascals, side, slot, book);
     lay_side(reply, figures)
+}
+
+// The gas root of a state by the slow way: the array gets it, and how many values of g were worked out.
+#[no_mangle]
+pub extern "C" fn woolyard_walk(
+    fluid: u64,
+    millikelvin: u64,
+    pascals: u64,
+    limit: u64,
+    walked: &mut [u64; 2],
+) -> u64
+    ensures { λ r. ⌜ WalkAnswers fluid millikelvin pascals limit r (now (walked .exit)) ⌝ }
+{
+    let reply = state::walk(fluid, millikelvin, pascals, limit);
+    let told = reply.figures();
+    *walked = [told.gas_root, told.values];
+    told.number
 }
 
 // Hydrogen's ideal heat capacity. The caller's double is seen as its 64 bits: a refused temperature leaves

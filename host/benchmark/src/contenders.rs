@@ -131,7 +131,7 @@ impl Timings {
 }
 
 /// Calls that write their figures, whole numbers or doubles.
-fn calls<'a, Figure: Copy + Default + 'a, const COUNT: usize>(
+pub fn calls<'a, Figure: Copy + Default + 'a, const COUNT: usize>(
     states: &'a [State],
     call: impl Fn(&State, &mut [Figure; COUNT]) -> u64 + 'a,
 ) -> Pass<'a> {

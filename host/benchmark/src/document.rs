@@ -21,6 +21,9 @@ impl Display for Report {
         writeln!(out, "\n## Ratios and bars\n")?;
         self.write_bars(out)?;
         write_about_bars(out)?;
+        writeln!(out, "\n## The walk\n")?;
+        self.write_about_walks(out)?;
+        self.write_walks(out)?;
         writeln!(out, "\n## Program `sheet`\n")?;
         self.write_programs(out)?;
         write_about_programs(out)?;
@@ -96,6 +99,28 @@ the dense root differ.
   {coldest}, each to {hottest} mK. In the others
   it is at most three times the coldest, {three_times} mK: SPLIT states lie below the critical
   temperature, which is under that.
+"
+        )
+    }
+
+    fn write_about_walks(&self, out: &mut Formatter) -> Result {
+        let walks = &self.walks;
+        let [states, mean, fewest, most] = [
+            walks.states,
+            walks.values_per_state().round() as usize,
+            walks.fewest as usize,
+            walks.most as usize,
+        ]
+        .map(grouped);
+        let per_value = walks.per_value();
+        write!(
+            out,
+            "\
+**{per_value:.2} ns a value of g**, the rest of the call among it. On the {states} states that are scanned a walk to
+the gas root works out {mean} values in the mean, {fewest} in the shortest and {most} in the longest. Before
+the clock runs, each walk is checked to end at the gas root of the quick call and to count N + b - z + 1.
+The walk and the quick call are timed in rounds of their own, as above.
+
 "
         )
     }

@@ -57,7 +57,8 @@ fn differences(states: &[State], gas_root: impl Fn(&State) -> f64) -> Vec<Differ
     all.filter(|found| found.floor() != found.proved).collect()
 }
 
-fn coefficients(state: &State) -> Reduced {
+/// The paper's t, p, s, a and b of a state.
+pub fn coefficients(state: &State) -> Reduced {
     let critical = critical(state.fluid, state.millikelvin);
     reduced(&critical, state.millikelvin, state.pascals)
 }

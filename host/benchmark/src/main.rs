@@ -14,11 +14,13 @@ mod proved;
 mod report;
 mod rounds;
 mod states;
+mod walks;
 
 use contenders::{Starts, Timings};
 use report::Report;
 use second::random::Random;
 use std::process::ExitCode;
+use walks::Walks;
 
 /// How many states the calls are timed on, how many of these are scanned too, and over how many
 /// others the floors are counted.
@@ -46,6 +48,7 @@ fn main() -> ExitCode {
         scanned: scanned.len(),
         counted: counted.len(),
         timings: Timings::measure(&timed, &starts),
+        walks: Walks::measure(&scanned),
         scan: contenders::scan(&scanned),
         programs: programs::user_times(),
         solver: floors::of_solver(&counted),

@@ -1,7 +1,7 @@
 //! The proved library, asked for the states of the second implementation.
 
 use second::sheet::State;
-use woolyard::boundary::{self, FIGURES, SIDE_FIGURES};
+use woolyard::boundary::{self, FIGURES, SIDE_FIGURES, WALK_FIGURES};
 use woolyard::{Answer, Fluid, Side, BOOK_BYTES};
 
 /// The reply's number; the figures are written.
@@ -35,6 +35,17 @@ pub fn side(state: &State, side: Side, figures: &mut [u64; SIDE_FIGURES]) -> u64
         pascals,
     } = *state;
     boundary::side(fluid, millikelvin, pascals, side.number(), figures)
+}
+
+/// The number of the reply to a walk; the gas root and the count are written.
+#[inline]
+pub fn walk(state: &State, limit: u64, walked: &mut [u64; WALK_FIGURES]) -> u64 {
+    let State {
+        fluid,
+        millikelvin,
+        pascals,
+    } = *state;
+    boundary::walk(fluid, millikelvin, pascals, limit, walked)
 }
 
 /// The answer to a state that the library accepts.

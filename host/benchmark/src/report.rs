@@ -4,6 +4,7 @@ use crate::contenders::Timings;
 use crate::floors::{with_a_zero, Difference};
 use crate::programs::{UserTimes, PROVED_RUNS, SECOND_RUNS};
 use crate::rounds::Timing;
+use crate::walks::Walks;
 use second::state::FLUIDS;
 use std::fmt::{Formatter, Result};
 
@@ -14,6 +15,7 @@ pub struct Report {
     pub scanned: usize,
     pub counted: usize,
     pub timings: Timings,
+    pub walks: Walks,
     pub scan: f64,
     pub programs: UserTimes,
     pub solver: Vec<Difference>,
@@ -110,6 +112,23 @@ impl Report {
         }
         let scan = grouped(self.scan.round() as usize);
         writeln!(out, "| the plain scan, in one pass | {scan} | |")
+    }
+
+    pub fn write_walks(&self, out: &mut Formatter) -> Result {
+        let walks = &self.walks;
+        let [walk, quick] = [walks.walk.median, walks.quick.median];
+        writeln!(out, "| what | nanoseconds per state | beside the walk |")?;
+        writeln!(out, "|---|---:|---:|")?;
+        for (what, nanoseconds) in [
+            ("the walk, `woolyard_walk`", walk),
+            ("the quick engine, `woolyard_state`", quick),
+            ("the plain scan, in one pass", self.scan),
+        ] {
+            let ratio = nanoseconds / walk;
+            let nanoseconds = grouped(nanoseconds.round() as usize);
+            writeln!(out, "| {what} | {nanoseconds} | {ratio:.3} |")?;
+        }
+        Ok(())
     }
 
     pub fn write_programs(&self, out: &mut Formatter) -> Result {

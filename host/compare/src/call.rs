@@ -9,18 +9,20 @@ pub enum Function {
     StateWithBook = 1,
     Side = 2,
     SideWithBook = 3,
-    Heat = 4,
-    Viscosity = 5,
-    Sheet = 6,
-    SheetLine = 7,
+    Walk = 4,
+    Heat = 5,
+    Viscosity = 6,
+    Sheet = 7,
+    SheetLine = 8,
 }
 
 /// The names in the header, in the order of the numbers.
-pub const NAMES: [&str; 8] = [
+pub const NAMES: [&str; 9] = [
     "woolyard_state",
     "woolyard_state_with_book",
     "woolyard_side",
     "woolyard_side_with_book",
+    "woolyard_walk",
     "woolyard_heat",
     "woolyard_viscosity",
     "woolyard_sheet",
@@ -99,6 +101,10 @@ impl Call {
         }
     }
 
+    pub fn walk([fluid, millikelvin, pascals]: [u64; 3], limit: u64) -> Call {
+        Call::new(Function::Walk, [fluid, millikelvin, pascals, limit])
+    }
+
     pub fn heat(kelvin_pattern: u64) -> Call {
         Call::new(Function::Heat, [kelvin_pattern])
     }
@@ -140,7 +146,11 @@ impl fmt::Display for Call {
             _ => write!(text, "{:?}", self.places),
         }?;
         match self.function {
-            Function::State | Function::Side | Function::Heat | Function::Viscosity => Ok(()),
+            Function::State
+            | Function::Side
+            | Function::Walk
+            | Function::Heat
+            | Function::Viscosity => Ok(()),
             Function::StateWithBook | Function::SideWithBook => {
                 write!(text, ", book {:?}", self.book)
             }
@@ -164,6 +174,7 @@ impl Call {
             Function::SideWithBook => {
                 format!("{state}, side {fourth}, slot {fifth}, book length {length}")
             }
+            Function::Walk => format!("{state}, limit {fourth}"),
             Function::Heat => format!("kelvin {first:#018x} or {}", f64::from_bits(first)),
             Function::Viscosity => format!("thousandths {first}"),
             Function::Sheet => format!("length {length}"),

@@ -126,6 +126,7 @@ mod tests {
         let state = [1, 120_000, 500_000];
         vec![
             Call::state(state),
+            Call::walk(state, 8411),
             Call::heat(0),
             Call::viscosity(1000),
             Call::sheet(b"0\n0\n0\n0", 6),
@@ -175,6 +176,30 @@ mod tests {
         for change in changes {
             let told = outcome(side(), change).expect_err("a difference");
             assert!(told.contains("side 1, slot 63") && told.contains("[1699, 943832, "));
+        }
+    }
+
+    /// Of a walk that ends, of one that is cut short, and of one whose state is refused: in the number, in the
+    /// root, in the count, and in a place that it does not have.
+    #[test]
+    fn differences_of_a_walk() {
+        for (state, limit) in [
+            ([1, 120_000, 500_000], 8411),
+            ([1, 120_000, 500_000], 8410),
+            ([1, 55_999, 500_000], 8411),
+        ] {
+            let walk = || vec![Call::walk(state, limit)];
+            assert_eq!(outcome(walk(), |_| ()), Ok(()));
+            let changes: [fn(&mut Call); 4] = [
+                |call| call.number ^= 11,
+                |call| call.places[0] ^= 92_696,
+                |call| call.places[1] += 1,
+                |call| call.places[2] ^= 1,
+            ];
+            for change in changes {
+                let told = outcome(walk(), change).expect_err("a difference");
+                assert!(told.contains(&format!("pascals 500000, limit {limit}) over")));
+            }
         }
     }
 

@@ -7,6 +7,7 @@ mod sides;
 mod split;
 mod states;
 mod viscosities;
+mod walks;
 
 use crate::comparison::{Comparison, Outcome};
 use crate::workers::Unit;
@@ -49,6 +50,7 @@ pub fn units() -> Vec<Unit> {
     units.extend(sheets::units());
     units.extend(sides::units());
     units.extend(books::units());
+    units.extend(walks::units());
     units.extend(states::units());
     units.extend(split::units());
     units

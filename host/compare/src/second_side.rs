@@ -6,16 +6,19 @@ use second::heat::heat_capacity;
 use second::sheet::{self, Refusal};
 use second::state::{put_into_book, put_side_into_book, reply, side_of, Reply, SideReply};
 use second::viscosity::excess_factor;
+use second::walk::{limited, walk_reply, WalkReply};
 use std::collections::HashMap;
 use std::io;
 
 /// How many states are remembered before they are forgotten together.
 const MOST_KNOWN: usize = 10_000;
 
-/// Since a scan of the grid is long, each state is answered once for all calls that ask for it soon.
+/// Since a scan of the grid is long, and so may a walk be, each state is answered once for all calls that
+/// ask for it soon.
 #[derive(Default)]
 pub struct Second {
     known: HashMap<[u64; 3], Reply>,
+    walked: HashMap<[u64; 3], WalkReply>,
 }
 
 impl Boundary for Second {
@@ -26,6 +29,7 @@ impl Boundary for Second {
                 Function::StateWithBook => self.state_with_book(call),
                 Function::Side => self.side(call),
                 Function::SideWithBook => self.side_with_book(call),
+                Function::Walk => self.walk(call),
                 Function::Heat => heat(call),
                 Function::Viscosity => viscosity(call),
                 Function::Sheet => whole_sheet(call),
@@ -44,6 +48,16 @@ impl Second {
         let [fluid, millikelvin, pascals] = state;
         let known = self.known.entry(state);
         *known.or_insert_with(|| reply(fluid, millikelvin, pascals))
+    }
+
+    /// With the largest limit.
+    pub fn whole_walk(&mut self, state: [u64; 3]) -> WalkReply {
+        if self.walked.len() >= MOST_KNOWN {
+            self.walked.clear();
+        }
+        let [fluid, millikelvin, pascals] = state;
+        let walked = self.walked.entry(state);
+        *walked.or_insert_with(|| walk_reply(fluid, millikelvin, pascals, u64::MAX))
     }
 
     fn reply_to(&mut self, call: &Call) -> Reply {
@@ -73,6 +87,13 @@ impl Second {
         let [.., side, slot] = call.arguments;
         let reply = put_side_into_book(whole, side, slot, &mut call.book[..call.length]);
         write_side(call, reply);
+    }
+
+    fn walk(&mut self, call: &mut Call) {
+        let [fluid, millikelvin, pascals, limit, _] = call.arguments;
+        let reply = limited(self.whole_walk([fluid, millikelvin, pascals]), limit);
+        call.number = reply.number;
+        call.places[..2].copy_from_slice(&reply.figures());
     }
 }
 

@@ -10,3 +10,4 @@ pub mod sheet;
 pub mod sheet_list;
 pub mod state;
 pub mod viscosity;
+pub mod walk;

@@ -191,24 +191,32 @@ pub fn density(fluid: u64, millikelvin: u64, pascals: u64, root: u64) -> u64 {
     narrow(top / (GAS_CONSTANT * root * millikelvin))
 }
 
-/// The reply to a call without a book.
-pub fn reply(fluid: u64, millikelvin: u64, pascals: u64) -> Reply {
+/// The cubic of a state, or the number of the first refusal that applies.
+pub fn accepted(fluid: u64, millikelvin: u64, pascals: u64) -> Result<Reduced, u64> {
     let Some(Fluid { coldest, .. }) = fluid_of_number(fluid) else {
-        return refused(1);
+        return Err(1);
     };
     if millikelvin < coldest {
-        return refused(21);
+        return Err(21);
     }
     if millikelvin > HOTTEST {
-        return refused(22);
+        return Err(22);
     }
     if pascals < LOWEST_PRESSURE {
-        return refused(31);
+        return Err(31);
     }
     if pascals > HIGHEST_PRESSURE {
-        return refused(32);
+        return Err(32);
     }
-    let Reduced { a, b, .. } = reduced(&critical(fluid, millikelvin), millikelvin, pascals);
+    Ok(reduced(&critical(fluid, millikelvin), millikelvin, pascals))
+}
+
+/// The reply to a call without a book.
+pub fn reply(fluid: u64, millikelvin: u64, pascals: u64) -> Reply {
+    let Reduced { a, b, .. } = match accepted(fluid, millikelvin, pascals) {
+        Ok(reduced) => reduced,
+        Err(number) => return refused(number),
+    };
     let found = crossings(a, b);
     let dense_root = *found.first().expect("a crossing");
     let gas_root = *found.last().expect("a crossing");

@@ -55,6 +55,15 @@ fn main() -> Result<(), Refusal> {
         nitrogen.root, nitrogen.density
     );
 
+    let walk = woolyard::walk(Fluid::Oxygen, 120_000, 500_000, woolyard::WALK_ENOUGH)?;
+    println!(
+        "oxygen at 120000 mK and 500000 Pa, walked: reply 0, gas root {} after {} values",
+        walk.gas_root, walk.values
+    );
+    if let Err(refusal) = woolyard::walk(Fluid::Oxygen, 120_000, 500_000, 8410) {
+        println!("with a limit of 8410: reply {}", refusal.number());
+    }
+
     if let Err(refusal) = woolyard::state(Fluid::Oxygen, 55_999, 500_000) {
         println!("oxygen at 55999 mK: reply {}", refusal.number());
     }

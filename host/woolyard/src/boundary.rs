@@ -1,4 +1,4 @@
-//! The eight functions of include/woolyard.h, as they are: numbers in, the reply's number out, and the
+//! The nine functions of include/woolyard.h, as they are: numbers in, the reply's number out, and the
 //! figures in the places that the caller lends. All that is unsafe stands here.
 //!
 //! The header asks that a pointer points to as many elements as its array or its length says, that it
@@ -13,6 +13,9 @@ pub const FIGURES: usize = 5;
 
 /// How many figures one side of it has.
 pub const SIDE_FIGURES: usize = 2;
+
+/// How many figures a walk has.
+pub const WALK_FIGURES: usize = 2;
 
 mod foreign {
     extern "C" {
@@ -47,6 +50,13 @@ mod foreign {
             book: *mut u8,
             book_length: usize,
             figures: *mut [u64; super::SIDE_FIGURES],
+        ) -> u64;
+        pub fn woolyard_walk(
+            fluid: u64,
+            millikelvin: u64,
+            pascals: u64,
+            limit: u64,
+            walked: *mut [u64; super::WALK_FIGURES],
         ) -> u64;
         pub fn woolyard_heat(kelvin: f64, heat: *mut f64) -> u64;
         pub fn woolyard_viscosity(thousandths: u64, factor: *mut u64) -> u64;
@@ -124,6 +134,19 @@ pub fn side_with_book(
             figures,
         )
     }
+}
+
+/// `woolyard_walk`: the gas root and how many values were worked out; the limit may be any number.
+#[inline]
+pub fn walk(
+    fluid: u64,
+    millikelvin: u64,
+    pascals: u64,
+    limit: u64,
+    walked: &mut [u64; WALK_FIGURES],
+) -> u64 {
+    // SAFETY: `walked` is the two places that are written, and nothing else is lent.
+    unsafe { foreign::woolyard_walk(fluid, millikelvin, pascals, limit, walked) }
 }
 
 /// `woolyard_heat`: any double at all; where it is refused, `heat` is left alone.

@@ -27,14 +27,17 @@ mod reply;
 #[cfg(test)]
 mod tests;
 
-use boundary::{FIGURES, SIDE_FIGURES};
-pub use reply::{Answer, FaultySheet, Fluid, Kind, Refusal, Side, SideAnswer, State};
+use boundary::{FIGURES, SIDE_FIGURES, WALK_FIGURES};
+pub use reply::{Answer, FaultySheet, Fluid, Kind, Refusal, Side, SideAnswer, State, Walk};
 
 /// How many bytes a book has.
 pub const BOOK_BYTES: usize = 192;
 
 /// How many bytes a sheet may have.
 pub const SHEET_MOST_BYTES: usize = 65_536;
+
+/// A limit with which no walk is cut short.
+pub const WALK_ENOUGH: u64 = 100_001;
 
 /// The reply to a state: its five figures, or the first of refusals 21, 22, 31 and 32 that applies.
 pub fn state(fluid: Fluid, millikelvin: u64, pascals: u64) -> Result<Answer, Refusal> {
@@ -101,6 +104,29 @@ pub fn side_with_book(
     let number =
         boundary::side_with_book(fluid, millikelvin, pascals, side, slot, book, &mut figures);
     side_answer(number, figures)
+}
+
+/// The gas root of a state found the slow way: the cubic is worked out at N + b, where N is 100,000, and
+/// then at one place below after another, until its value is not positive. That place is the gas root of
+/// [`state`]. No more values are worked out than the limit says, which may be any number; where the walk
+/// needs more, it is refusal 11, and as many were worked out as the limit says. The first of refusals 21,
+/// 22, 31, 32 and 11 that applies is given.
+///
+/// ```
+/// use woolyard::{Fluid, Refusal, WALK_ENOUGH};
+///
+/// let walk = woolyard::walk(Fluid::Oxygen, 120_000, 500_000, WALK_ENOUGH)?;
+/// assert_eq!((walk.gas_root, walk.values), (92_696, 8411));
+/// let cut_short = woolyard::walk(Fluid::Oxygen, 120_000, 500_000, 8410);
+/// assert_eq!(cut_short, Err(Refusal::WalkCutShort));
+/// # Ok::<(), Refusal>(())
+/// ```
+pub fn walk(fluid: Fluid, millikelvin: u64, pascals: u64, limit: u64) -> Result<Walk, Refusal> {
+    let mut walked = [0; WALK_FIGURES];
+    let number = boundary::walk(fluid.number(), millikelvin, pascals, limit, &mut walked);
+    Refusal::check(number)?;
+    let [gas_root, values] = walked;
+    Ok(Walk { gas_root, values })
 }
 
 /// Hydrogen's ideal heat capacity at a temperature in kelvin, any double at all: kJ/(kg K), equal bit

@@ -85,6 +85,15 @@ pub struct SideAnswer {
     pub density: u64,
 }
 
+/// The figures of a walk that reached the gas root.
+#[derive(Clone, Copy, Debug, PartialEq, Eq, Hash)]
+pub struct Walk {
+    /// In hundred-thousandths.
+    pub gas_root: u64,
+    /// How many values of the cubic were worked out.
+    pub values: u64,
+}
+
 /// A state line as written, in range or not.
 #[derive(Clone, Copy, Debug, PartialEq, Eq, Hash)]
 pub struct State {
@@ -103,6 +112,7 @@ pub enum Refusal {
     PressureTooHigh = 32,
     NoSuchSide = 12,
     NoSuchSlot = 4,
+    WalkCutShort = 11,
     HeatOutOfRange = 5,
     DensityOutOfRange = 15,
     SheetMalformed = 6,
@@ -111,7 +121,7 @@ pub enum Refusal {
 }
 
 impl Refusal {
-    const ALL: [Refusal; 12] = [
+    const ALL: [Refusal; 13] = [
         Refusal::NoSuchFluid,
         Refusal::TemperatureTooLow,
         Refusal::TemperatureTooHigh,
@@ -119,6 +129,7 @@ impl Refusal {
         Refusal::PressureTooHigh,
         Refusal::NoSuchSide,
         Refusal::NoSuchSlot,
+        Refusal::WalkCutShort,
         Refusal::HeatOutOfRange,
         Refusal::DensityOutOfRange,
         Refusal::SheetMalformed,
@@ -151,6 +162,7 @@ impl fmt::Display for Refusal {
             Refusal::PressureTooHigh => "pressure above the range",
             Refusal::NoSuchSide => "side is neither 0 nor 1",
             Refusal::NoSuchSlot => "book not of 192 bytes, or slot above 63",
+            Refusal::WalkCutShort => "the limit of values is below what the walk needs",
             Refusal::HeatOutOfRange => "heat-capacity temperature not a number in 14 to 1000 K",
             Refusal::DensityOutOfRange => "reduced density below 100 or above 3000 thousandths",
             Refusal::SheetMalformed => "sheet badly formed",

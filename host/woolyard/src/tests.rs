@@ -1,4 +1,4 @@
-//! Document 01, "Points worked through" and "State sheets", and document 02, C-18 to C-20 and C-24.
+//! Document 01, "Points worked through" and "State sheets", and document 02, C-14, C-18 to C-20 and C-24.
 
 use super::*;
 
@@ -211,6 +211,50 @@ fn slots_of_the_book_with_a_side() {
             assert_eq!(call(63, &mut book), Ok(expected));
             assert_eq!(book, sevens_but(63, [0x18, 0x6A, 0x01]));
         }
+    }
+}
+
+/// With as many values as each needs, and with the header's limit that is enough for all: the last is the
+/// longest walk that is known.
+#[test]
+fn walks() {
+    for (fluid, millikelvin, pascals, gas_root, values) in [
+        (Fluid::Oxygen, 300_000, 1_000_000, 99_286, 1600),
+        (Fluid::Oxygen, 120_000, 500_000, 92_696, 8411),
+        (Fluid::Parahydrogen, 300_000, 1_000_000, 100_474, 164),
+        (Fluid::Parahydrogen, 1_000_000, 10_000, 100_001, 1),
+        (Fluid::Nitrogen, 90_000, 300_000, 91_704, 9370),
+        (Fluid::Oxygen, 56_000, 249_932, 1306, 99_880),
+    ] {
+        let with = |limit| walk(fluid, millikelvin, pascals, limit);
+        let whole = Walk { gas_root, values };
+        for limit in [values, values + 1, WALK_ENOUGH, 1 << 32, 1 << 63, u64::MAX] {
+            assert_eq!(with(limit), Ok(whole));
+        }
+        for limit in [0, values - 1] {
+            assert_eq!(with(limit), Err(Refusal::WalkCutShort));
+        }
+        let answer = state(fluid, millikelvin, pascals);
+        assert_eq!(answer.map(|answer| answer.gas_root), Ok(gas_root));
+    }
+}
+
+/// The count of a walk that is cut short is the limit. The state's own refusals come before 11 and have no
+/// count.
+#[test]
+fn walks_that_are_refused() {
+    for limit in [0, 1, 8410] {
+        let call = |fluid, millikelvin, pascals| {
+            let mut walked = [7; WALK_FIGURES];
+            let number = boundary::walk(fluid, millikelvin, pascals, limit, &mut walked);
+            (number, walked)
+        };
+        assert_eq!(call(3, 0, 0), (1, [0, 0]));
+        assert_eq!(call(1, 55_999, 0), (21, [0, 0]));
+        assert_eq!(call(1, 1_000_001, 0), (22, [0, 0]));
+        assert_eq!(call(1, 120_000, 9_999), (31, [0, 0]));
+        assert_eq!(call(1, 120_000, 50_000_001), (32, [0, 0]));
+        assert_eq!(call(1, 120_000, 500_000), (11, [0, limit]));
     }
 }
 

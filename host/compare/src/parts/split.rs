@@ -33,15 +33,23 @@ pub fn units() -> Vec<Unit> {
     units
 }
 
-/// Temperatures below the critical one, nearer to it more often, and pressures of all magnitudes.
 fn spread(comparison: &mut Comparison, seed: u64) -> Outcome {
     let mut random = Random(seed);
-    for (fluid, coldest, critical) in FLUIDS.into_iter().cycle().take(STATES) {
-        let millikelvin = critical - random.magnitude(critical - coldest);
-        let pascals = LOWEST_PRESSURE + random.magnitude(HIGHEST_SPLIT - LOWEST_PRESSURE);
-        every_form(comparison, [fluid, millikelvin, pascals], &mut random)?;
+    for fluid in FLUIDS.into_iter().cycle().take(STATES) {
+        let state = below_critical(fluid, &mut random);
+        every_form(comparison, state, &mut random)?;
     }
     Ok(())
+}
+
+/// Temperatures below the critical one, nearer to it more often, and pressures of all magnitudes.
+pub fn below_critical(
+    (fluid, coldest, critical): (u64, u64, u64),
+    random: &mut Random,
+) -> [u64; 3] {
+    let millikelvin = critical - random.magnitude(critical - coldest);
+    let pascals = LOWEST_PRESSURE + random.magnitude(HIGHEST_SPLIT - LOWEST_PRESSURE);
+    [fluid, millikelvin, pascals]
 }
 
 fn edges(comparison: &mut Comparison, seed: u64) -> Outcome {
@@ -51,47 +59,45 @@ fn edges(comparison: &mut Comparison, seed: u64) -> Outcome {
             // evenly down from the critical temperature, other ones in each unit
             let part = which * UNITS + seed;
             let millikelvin = critical - (critical - coldest) * part / (ISOTHERMS * UNITS);
-            around_edges(comparison, fluid, millikelvin, &mut random)?;
+            for edge in edges_of(comparison, [fluid, millikelvin]) {
+                every_form_around(comparison, [fluid, millikelvin, edge], &mut random)?;
+            }
         }
     }
     Ok(())
 }
 
-/// Wherever the kind changes between two pressures of the isotherm.
-fn around_edges(
-    comparison: &mut Comparison,
-    fluid: u64,
-    millikelvin: u64,
-    random: &mut Random,
-) -> Outcome {
+/// The last pressure before each change of the kind, wherever it changes between two pressures of the
+/// isotherm.
+pub fn edges_of(comparison: &mut Comparison, [fluid, millikelvin]: [u64; 2]) -> Vec<u64> {
+    let mut kind = |pascals| {
+        let state = [fluid, millikelvin, pascals];
+        comparison.second().reply(state).kind
+    };
     let pressures = pressures();
-    for pair in pressures.windows(2) {
-        let mut kind = |pascals| {
-            comparison
-                .second()
-                .reply([fluid, millikelvin, pascals])
-                .kind
-        };
-        let Some(edge) = last_before_change(pair[0], pair[1], &mut kind) else {
-            continue;
-        };
-        around(comparison, [fluid, millikelvin, edge], random)?;
-    }
-    Ok(())
+    let pairs = pressures.windows(2);
+    pairs
+        .filter_map(|pair| last_before_change(pair[0], pair[1], &mut kind))
+        .collect()
 }
 
 /// Both sides of an edge, of which this state is the last on the lower one.
-fn around(
+fn every_form_around(
     comparison: &mut Comparison,
     [fluid, millikelvin, edge]: [u64; 3],
     random: &mut Random,
 ) -> Outcome {
-    let near = edge.saturating_sub(6)..=edge + 7;
-    let far = [10, 100, 1000].map(|step| [edge.saturating_sub(step), edge + step]);
-    for pascals in near.chain(far.concat()) {
+    for pascals in around(edge) {
         every_form(comparison, [fluid, millikelvin, pascals], random)?;
     }
     Ok(())
+}
+
+/// Pressures on both sides of an edge, some of them near.
+pub fn around(edge: u64) -> impl Iterator<Item = u64> {
+    let near = edge.saturating_sub(6)..=edge + 7;
+    let far = [10, 100, 1000].map(|step| [edge.saturating_sub(step), edge + step]);
+    near.chain(far.concat())
 }
 
 /// The nearer the critical point, the narrower the region, which no steps of pressure would meet, and the
@@ -104,7 +110,7 @@ fn tip(comparison: &mut Comparison) -> Outcome {
             let lower = last_above_a_third(comparison, isotherm, |reply| reply.dense_root);
             let upper = last_above_a_third(comparison, isotherm, |reply| reply.gas_root);
             for edge in [lower, upper] {
-                around(comparison, [fluid, millikelvin, edge], &mut random)?;
+                every_form_around(comparison, [fluid, millikelvin, edge], &mut random)?;
             }
             for part in 1..8 {
                 let between = lower + (upper - lower) * part / 8;

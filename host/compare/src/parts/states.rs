@@ -129,16 +129,21 @@ fn ends(comparison: &mut Comparison, fluid: u64) -> Outcome {
     Ok(())
 }
 
-/// Half of the pressures of all magnitudes above the lowest, half of them anywhere; temperatures
-/// likewise.
 fn spread(comparison: &mut Comparison, seed: u64) -> Outcome {
     let mut random = Random(seed);
     for (fluid, coldest, _) in FLUIDS.into_iter().cycle().take(STATES) {
-        let millikelvin = within(&mut random, coldest, HOTTEST);
-        let pascals = within(&mut random, LOWEST_PRESSURE, HIGHEST_PRESSURE);
-        every_form(comparison, [fluid, millikelvin, pascals], &mut random)?;
+        let state = any_state(fluid, coldest, &mut random);
+        every_form(comparison, state, &mut random)?;
     }
     Ok(())
+}
+
+/// Half of the pressures of all magnitudes above the lowest, half of them anywhere; temperatures
+/// likewise.
+pub fn any_state(fluid: u64, coldest: u64, random: &mut Random) -> [u64; 3] {
+    let millikelvin = within(random, coldest, HOTTEST);
+    let pascals = within(random, LOWEST_PRESSURE, HIGHEST_PRESSURE);
+    [fluid, millikelvin, pascals]
 }
 
 fn within(random: &mut Random, low: u64, high: u64) -> u64 {
