@@ -94,11 +94,12 @@ uint64_t woolyard_side(uint64_t fluid, uint64_t millikelvin, uint64_t pascals, u
 uint64_t woolyard_side_with_book(uint64_t fluid, uint64_t millikelvin, uint64_t pascals, uint64_t side, uint64_t slot, uint8_t *book,
                                  size_t book_length, uint64_t figures[2]);
 
-/* The gas root of a state found the slow way: the cubic is worked out at N + b, where N is 100,000, and then at one place below after another,
- * until its value is not positive. That place is the gas root of woolyard_state. The limit may be any number, and no more values than it says
- * are worked out. Answers 0, 1, 21, 22, 31, 32 or 11; the first refusal in this order that applies is given.
+/* The gas root of a state found the slow way: the cubic is worked out at N + b and then at one place below after another, until its value is not
+ * positive; N is the grid, 100,000, and b the state's own B* on it, as document 01 has them. That place is the gas root of woolyard_state. The
+ * limit may be any number, and no more values than it says are worked out. Answers 0, 1, 21, 22, 31, 32 or 11; the first refusal in this order
+ * that applies is given.
  *   walked[0]  the gas root z; 0 where refused
- *   walked[1]  how many values were worked out: 0: N + b - z + 1; 11: the limit, which is below that; 0 for any other refusal */
+ *   walked[1]  how many values were worked out: N + b - z + 1 where answered; for 11 the limit, which is below that; for any other refusal 0 */
 uint64_t woolyard_walk(uint64_t fluid, uint64_t millikelvin, uint64_t pascals, uint64_t limit, uint64_t walked[2]);
 
 /* Hydrogen's ideal heat capacity at a temperature in kelvin, any double at all: kJ/(kg K), equal bit for bit to Table 4 evaluated from A5

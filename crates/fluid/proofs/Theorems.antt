@@ -1,6 +1,7 @@
 -- What is proved of the definitions of `specs/`, beside what each call promises: which numbers are fluids', the bounds of a and b over every
 -- accepted state and of the molar masses, and that each promise fixes its answer. Assumes nothing.
 use mathlib.Core.Path.{_≡_, refl, sym, ap, ap₂, _∙_}
+use mathlib.Core.Logic.{⊎-elim}
 use Prim.Native.Nat.{ℕ, _*_, _/_, _≤_, _<_}
 use native.Mathlib.Omega.{arith}
 use Rattle.fluid.specs.declared.choice.Fluid.{Fluid}
@@ -14,9 +15,10 @@ use Rattle.squares.proofs.Theorems.{square-root-determined, square-root-exists}
 use Rattle.fluid.specs.Reduced.{Reduces}
 use Rattle.fluid.specs.Checks.{fluidChecks, stateChecks}
 use Rattle.fluid.specs.Promise.{numbered, Numbers, Reached, reduction, Reaches, ReducesTo}
-use Rattle.refusals.specs.Checks.{Outcome, with-value, with-number}
+use Rattle.refusals.specs.Checks.{NoneOf, Outcome, with-value, with-number}
 use Rattle.refusals.proofs.Theorems.{gives-once, refusalOf, refusal-of-number}
 use Rattle.fluid.proofs.Fluids.{heaviest, fits, fluidOf, number-of-fluid, number-determines-fluid, no-fluid}
+use Rattle.fluid.proofs.Accepting.{accepts, fluid-or-none}
 use Rattle.fluid.proofs.Ranges.{Bounds, spanned, bounds}
 
 -- a number is a fluid's exactly up to 2, and 1 is told of any other (document 02, C-20)
@@ -110,3 +112,18 @@ reduced-exists fluid millikelvin pascals =
       record { t = t; p = _; s = root .0; a = _; b = _ },
       record { is-t = refl; is-p = refl; is-s = root .1; is-a = refl; is-b = refl },
     )
+
+-- A state that is not refused comes to a fluid and its coefficients, and these are bounded.
+module _ (number millikelvin pascals : ℕ) (none : NoneOf (stateChecks number millikelvin pascals)) where
+  pub reached-exists : (reached : Reached) × Reaches number millikelvin pascals reached
+  reached-exists = ⊎-elim of-known (λ unknown. absurd (none .0 unknown)) (fluid-or-none number)
+    where
+      of-known : (fluid : Fluid) × (number ≡ numberOf fluid) → (reached : Reached) × Reaches number millikelvin pascals reached
+      of-known known =
+          let reduced = reduced-exists (known .0) millikelvin pascals in
+          (record { fluid = known .0; reduced = reduced .0 }, record { is-number = known .1; reduces = reduced .1 })
+
+  pub coefficients-at-most : (reached : Reached) → Reaches number millikelvin pascals reached → (reached .reduced .a ≤ 11500000) × (reached .reduced .b ≤ 1000000)
+  coefficients-at-most reached reaches =
+      let accepted = accepts (reached .fluid) (reaches .is-number) millikelvin pascals none in
+      (a-at-most accepted (reaches .reduces), b-at-most accepted (reaches .reduces))

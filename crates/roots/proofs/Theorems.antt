@@ -1,28 +1,17 @@
--- The coefficients of an accepted state are within the cubic's bounds, two answers that keep what `find` promises are equal,
--- and an accepted state has roots. Assumes nothing.
+-- Two answers that keep what `find` promises are equal, and an accepted state has roots. Assumes nothing.
 use mathlib.Core.Path.{_≡_, refl, sym, ap, _∙_}
-use mathlib.Core.Logic.{⊎-elim}
 use mathlib.Core.List.{List}
 use Prim.Native.Nat.{ℕ}
-use native.Mathlib.Omega.{arith}
 use Rattle.refusals.specs.Checks.{Check, NoneOf, Outcome, with-value, with-number, Gives}
 use Rattle.refusals.proofs.Theorems.{gives-once, refusalOf, refusal-of-number}
-use Rattle.cubic.specs.Promise.{Within}
 use Rattle.cubic.proofs.Theorems.{gas-root-unique, dense-root-unique, gas-root-exists, dense-root-exists}
 use Rattle.fluid.specs.declared.choice.Fluid.{Fluid}
-use Rattle.fluid.specs.declared.coefficients.Reduced.{Reduced}
-use Rattle.fluid.specs.Figures.{numberOf, Accepted}
 use Rattle.fluid.specs.Checks.{stateChecks}
-use Rattle.fluid.specs.Reduced.{Reduces}
-use Rattle.fluid.proofs.Accepting.{fluid-or-none}
 use Rattle.fluid.proofs.Fluids.{number-determines-fluid}
-use Rattle.fluid.proofs.Theorems.{reduced-determined, reduced-exists, a-at-most, b-at-most}
+use Rattle.fluid.proofs.Theorems.{reduced-determined, reached-exists}
 use Rattle.roots.specs.declared.Finding.{Finding}
 use Rattle.roots.specs.declared.Finding.the-variants as Finding
 use Rattle.roots.specs.Promise.{Found, finding, HasRoots, Finds}
-
-pub within : {fluid : Fluid} {millikelvin pascals : ℕ} {reduced : Reduced} → Accepted fluid millikelvin pascals → Reduces fluid millikelvin pascals reduced → Within (reduced .a) (reduced .b)
-within accepted reduces = omega (arith, a-at-most accepted reduces, b-at-most accepted reduces)
 
 pub finds : {number millikelvin pascals : ℕ} (found : Found) → NoneOf (stateChecks number millikelvin pascals) → HasRoots number millikelvin pascals found → Finds number millikelvin pascals (with-value found)
 finds found none roots = (none, roots)
@@ -61,13 +50,11 @@ module _ (number millikelvin pascals : ℕ) where
 
   -- a state to which no check applies has two roots
   pub roots-exist : NoneOf (stateChecks number millikelvin pascals) → (found : Found) × HasRoots number millikelvin pascals found
-  roots-exist none = ⊎-elim of-known (λ unknown. absurd (none .0 unknown)) (fluid-or-none number)
-    where
-      of-known : (fluid : Fluid) × (number ≡ numberOf fluid) → (found : Found) × HasRoots number millikelvin pascals found
-      of-known known =
-          let reduced = reduced-exists (known .0) millikelvin pascals in
-          let gas = gas-root-exists (reduced .0 .a) (reduced .0 .b) in
-          let dense = dense-root-exists (reduced .0 .a) (reduced .0 .b) in (
-            record { fluid = known .0; gas = gas .0; dense = dense .0 },
-            record { is-number = known .1; reduced = reduced .0; reduces = reduced .1; is-gas = gas .1; is-dense = dense .1 },
-          )
+  roots-exist none =
+      let state = reached-exists number millikelvin pascals none in
+      let reduced = state .0 .reduced in
+      let gas = gas-root-exists (reduced .a) (reduced .b) in
+      let dense = dense-root-exists (reduced .a) (reduced .b) in (
+        record { fluid = state .0 .fluid; gas = gas .0; dense = dense .0 },
+        record { is-number = state .1 .is-number; reduced = reduced; reduces = state .1 .reduces; is-gas = gas .1; is-dense = dense .1 },
+      )

@@ -17,6 +17,10 @@ pub record Walking (a b limit z values : ℕ) : Type 0 where
   pub counted : z + values ≡ N + b
   pub not-over : values ≤ limit
 
+-- from b down no value is positive
+pub not-at-end : (a b z : ℕ) → Positive (g a b z) → 0 < z
+not-at-end a b z positive = by-contra 1 z (λ low. omega (arith, of-positive a b z positive, to-b a b z (omega arith)))
+
 module _ {a b limit : ℕ} where
   pub begins : Walking a b limit (N + b) 0
   unfolding PositiveFrom
@@ -41,18 +45,14 @@ module _ {a b limit : ℕ} where
           suffices = omega (arith, walking .counted);
         }
 
-    -- from b down no value is positive
-    pub not-at-end : Positive (g a b z) → 0 < z
-    not-at-end positive = by-contra 1 z (λ low. omega (arith, of-positive a b z positive, to-b a b z (omega arith)))
-
     pub goes-on : values < limit → Positive (g a b z) → Walking a b limit (z - 1) (values + 1)
     unfolding PositiveFrom
     goes-on left positive =
-        let some : 0 < z = not-at-end positive in
+        let some : 0 < z = not-at-end a b z positive in
         record { positive = λ y above. by-place y above (decLe (z + 1) y); counted = omega (arith, walking .counted); not-over = omega arith }
       where
         by-place : (y : ℕ) → z - 1 + 1 ≤ y → Dec (z + 1 ≤ y) → minus a b y < plus a y
         by-place y above (yes higher) = walking .positive y higher
         by-place y above (no f) =
-            let here : y ≡ z = omega (arith, not-at-end positive) in
+            let here : y ≡ z = omega (arith, not-at-end a b z positive) in
             rw here (of-positive a b z positive)

@@ -1,7 +1,7 @@
 -- What is proved of the walk to a state's gas root beside its contract: the contract fixes the reply, the count is the way from N + b down to the root,
 -- 11 is told exactly where the limit is below that, and a limit of N + 1 always suffices. Assumes nothing.
 use mathlib.Core.Path.{_≡_, refl, sym, ap, ap₂, _∙_}
-use mathlib.Core.Logic.{_⊎_, inl, inr, ⊎-elim, _↔_}
+use mathlib.Core.Logic.{_⊎_, inl, inr, _↔_}
 use Prim.Native.Nat.{ℕ, _+_, _-_, _≤_, _<_}
 use native.Mathlib.Omega.{arith}
 use native.Mathlib.Decide.{decLe}
@@ -15,12 +15,10 @@ use Rattle.cubic.specs.Cubic.{N}
 use Rattle.cubic.proofs.Theorems.{gas-root-exists}
 use Rattle.slow_engine.specs.Promise.{way}
 use Rattle.slow_engine.proofs.Theorems.{longest-way}
-use Rattle.fluid.specs.declared.choice.Fluid.{Fluid}
-use Rattle.fluid.specs.Figures.{numberOf}
 use Rattle.fluid.specs.Checks.{stateChecks}
 use Rattle.fluid.specs.Promise.{Reached, Reaches}
-use Rattle.fluid.proofs.Accepting.{fluid-or-none, state-decided}
-use Rattle.fluid.proofs.Theorems.{reached-once, reduced-exists}
+use Rattle.fluid.proofs.Accepting.{state-decided}
+use Rattle.fluid.proofs.Theorems.{reached-once, reached-exists}
 use Rattle.walks.specs.declared.replies.WalkReply.{WalkReply}
 use Rattle.walks.specs.declared.replies.WalkReply.the-variants.{ToRoot, Refused}
 use Rattle.walks.specs.declared.replies.WalkFigures.{WalkFigures}
@@ -63,15 +61,10 @@ module _ (number millikelvin pascals : ℕ) where
 
   -- an accepted state has a gas root, and so a way to it
   pub way-exists : NoneOf (stateChecks number millikelvin pascals) → (gas : ℕ) × ((values : ℕ) × GasRootByWalk number millikelvin pascals gas values)
-  way-exists none = ⊎-elim of-known (λ unknown. absurd (none .0 unknown)) (fluid-or-none number)
-    where
-      of-known : (fluid : Fluid) × (number ≡ numberOf fluid) → (gas : ℕ) × ((values : ℕ) × GasRootByWalk number millikelvin pascals gas values)
-      of-known known =
-          let reduced = reduced-exists (known .0) millikelvin pascals in
-          let gas = gas-root-exists (reduced .0 .a) (reduced .0 .b) in
-          let reached : Reached = record { fluid = known .0; reduced = reduced .0 } in
-          let reaches : Reaches number millikelvin pascals reached = record { is-number = known .1; reduces = reduced .1 } in
-          (gas .0, (way (reduced .0 .b) (gas .0), record { reached = reached; reaches = reaches; is-gas = gas .1; is-way = refl }))
+  way-exists none =
+      let state = reached-exists number millikelvin pascals none in
+      let gas = gas-root-exists (state .0 .reduced .a) (state .0 .reduced .b) in
+      (gas .0, (way (state .0 .reduced .b) (gas .0), record { reached = state .0; reaches = state .1; is-gas = gas .1; is-way = refl }))
 
   -- no walk is longer than N + 1 values
   way-at-most : {gas values : ℕ} → GasRootByWalk number millikelvin pascals gas values → values ≤ N + 1

@@ -40,12 +40,7 @@ pub fn side(state: &State, side: Side, figures: &mut [u64; SIDE_FIGURES]) -> u64
 /// The number of the reply to a walk; the gas root and the count are written.
 #[inline]
 pub fn walk(state: &State, limit: u64, walked: &mut [u64; WALK_FIGURES]) -> u64 {
-    let State {
-        fluid,
-        millikelvin,
-        pascals,
-    } = *state;
-    boundary::walk(fluid, millikelvin, pascals, limit, walked)
+    boundary::walk(state.fluid, state.millikelvin, state.pascals, limit, walked)
 }
 
 /// The answer to a state that the library accepts.

@@ -106,11 +106,11 @@ pub fn side_with_book(
     side_answer(number, figures)
 }
 
-/// The gas root of a state found the slow way: the cubic is worked out at N + b, where N is 100,000, and
-/// then at one place below after another, until its value is not positive. That place is the gas root of
-/// [`state`]. No more values are worked out than the limit says, which may be any number; where the walk
-/// needs more, it is refusal 11, and as many were worked out as the limit says. The first of refusals 21,
-/// 22, 31, 32 and 11 that applies is given.
+/// The gas root of a state found the slow way: the cubic is worked out at N + b and then at one place below
+/// after another, until its value is not positive; N is the grid, 100,000, and b the state's own B* on it,
+/// as document 01 has them. That place is the gas root of [`state`]. No more values are worked out than the
+/// limit says, which may be any number; where the walk needs more, it is refusal 11, and as many were worked
+/// out as the limit says. The first of refusals 21, 22, 31, 32 and 11 that applies is given.
 ///
 /// ```
 /// use woolyard::{Fluid, Refusal, WALK_ENOUGH};

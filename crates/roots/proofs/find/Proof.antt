@@ -2,8 +2,8 @@
 use native.Mathlib.Omega.{arith}
 use Rattle.fluid.specs.Promise.{ReducesTo}
 use Rattle.refusals.specs.Checks.{with-value}
-use Rattle.fluid.proofs.Accepting.{accepts}
-use Rattle.roots.proofs.Theorems.{within, finds}
+use Rattle.fluid.proofs.Theorems.{coefficients-at-most}
+use Rattle.roots.proofs.Theorems.{finds}
 use borrow.Author.Needs.{needs}
 use Rattle.roots.proofs.find.Statement.{statement}
 use Rattle.roots.proofs.find.Tie as tie
@@ -24,7 +24,7 @@ enum-known-fluid c = search needs
 both-roots-requires : tie.Need-both-roots-requires
 both-roots-requires c κs =
     let state = reached (c .before) in
-    omega (arith, within (accepts _ (state .1 .is-number) _ _ (state .0)) (state .1 .reduces))
+    omega (arith, coefficients-at-most _ _ _ (state .0) _ (state .1))
 
 returns : tie.Need-returns
 returns c = rw (c .before .refusal .given .1) at (c .before .before .before .reduce .ensures)

@@ -41,7 +41,7 @@ positive c =
     test-left (omega arith) (omega (arith, turn .loop .inv)) (c .before .g .ensures) (c .if4 .left)
 
 sub-z : tie.Need-sub-z Inv-loop μ-loop
-sub-z c = not-at-end (c .before .before .before .loop .inv) (positive c)
+sub-z c = not-at-end _ _ _ (positive c)
 
 loop-less : tie.Need-loop-less Inv-loop μ-loop
 loop-less c = omega (arith, sub-z c)

@@ -12,8 +12,7 @@ use Rattle.fluid.specs.declared.coefficients.Reduced.{Reduced}
 use Rattle.fluid.specs.declared.coefficients.Reduction.{Reduction}
 use Rattle.fluid.specs.declared.coefficients.Reduction.the-variants as Reduction
 use Rattle.fluid.specs.Promise.{reduction, ReducesTo}
-use Rattle.fluid.proofs.Accepting.{accepts}
-use Rattle.fluid.proofs.Theorems.{a-at-most, b-at-most}
+use Rattle.fluid.proofs.Theorems.{coefficients-at-most}
 use Rattle.walks.specs.declared.replies.WalkReply.{WalkReply}
 use Rattle.walks.specs.declared.replies.WalkReply.the-variants.{Refused}
 use Rattle.walks.specs.Replies.{figuresOf, Replies}
@@ -31,9 +30,7 @@ module _ (number millikelvin pascals : ℕ) (r : Reduction) (told : ReducesTo nu
     state = rw is-to at told
 
     within : Within (reduced .a) (reduced .b)
-    within =
-        let accepted = accepts fluid (state .1 .is-number) millikelvin pascals (state .0) in
-        omega (arith, a-at-most accepted (state .1 .reduces), b-at-most accepted (state .1 .reduces))
+    within = omega (arith, coefficients-at-most number millikelvin pascals (state .0) _ (state .1))
 
     as-walked : (limit : ℕ) (reply : WalkReply) → WalksDown (reduced .a) (reduced .b) limit reply → Replies number millikelvin pascals limit (figuresOf reply)
     as-walked limit reply walked = tells-as-walked number millikelvin pascals limit reply _ (state .0) (state .1) walked
