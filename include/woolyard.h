@@ -29,6 +29,7 @@ extern "C" {
 #define WOOLYARD_SHEET_TOO_LONG 7         /* sheet longer than 65,536 bytes */
 #define WOOLYARD_WALK_CUT_SHORT 11        /* the limit of values is below what the walk needs */
 #define WOOLYARD_NO_SUCH_SIDE 12          /* side is neither 0 nor 1 */
+#define WOOLYARD_SCALING_OUT_OF_RANGE 13  /* a scaling below 500 or above 1500 thousandths, or the lower one not first */
 #define WOOLYARD_DENSITY_OUT_OF_RANGE 15  /* reduced density below 100 or above 3000 thousandths */
 #define WOOLYARD_NO_SUCH_LINE 16          /* no state line of the number asked for */
 #define WOOLYARD_TEMPERATURE_TOO_LOW 21   /* below 14,000 mK for parahydrogen, 56,000 mK for oxygen, 64,000 mK for nitrogen */
@@ -68,6 +69,15 @@ extern "C" {
 /* A limit with which no walk is cut short. */
 #define WOOLYARD_WALK_ENOUGH 100001
 
+/* Where the roots of a band lie. */
+#define WOOLYARD_BAND_LOWER 0  /* the gas root at the lower scaling, which is the larger root */
+#define WOOLYARD_BAND_UPPER 1  /* the gas root at the upper scaling */
+
+/* The scalings of a band, in thousandths: the ends of their range, and the one that changes nothing. */
+#define WOOLYARD_SCALING_LEAST 500
+#define WOOLYARD_SCALING_MOST 1500
+#define WOOLYARD_SCALING_NONE 1000
+
 /* How many bytes a book has, and how many a sheet may have. */
 #define WOOLYARD_BOOK_BYTES 192
 #define WOOLYARD_SHEET_MOST_BYTES 65536
@@ -101,6 +111,14 @@ uint64_t woolyard_side_with_book(uint64_t fluid, uint64_t millikelvin, uint64_t 
  *   walked[0]  the gas root z; 0 where refused
  *   walked[1]  how many values were worked out: N + b - z + 1 where answered; for 11 the limit, which is below that; for any other refusal 0 */
 uint64_t woolyard_walk(uint64_t fluid, uint64_t millikelvin, uint64_t pascals, uint64_t limit, uint64_t walked[2]);
+
+/* What if the attraction is a little off: the gas root of a state at two scalings of its a, which is A* on the grid, as document 01 has it. The
+ * scalings are whole numbers of thousandths, from 500 to 1500, the lower first; they may be equal, and 1000 is a itself. The scaled a is rounded
+ * down, and b is left as it is. More attraction never makes the gas root larger: at every scaling from lower to upper it lies from roots[1] to
+ * roots[0]. The scalings may be any numbers. Answers 0, 1, 21, 22, 31, 32 or 13; the first refusal in this order that applies is given.
+ *   roots[0]  the gas root at the lower scaling; 0 where refused
+ *   roots[1]  the gas root at the upper scaling, which is not the larger one; 0 where refused */
+uint64_t woolyard_band(uint64_t fluid, uint64_t millikelvin, uint64_t pascals, uint64_t lower, uint64_t upper, uint64_t roots[2]);
 
 /* Hydrogen's ideal heat capacity at a temperature in kelvin, any double at all: kJ/(kg K), equal bit for bit to Table 4 evaluated from A5
  * down, each operation rounded once. Answers 0, or 5 and leaves *heat alone: below 14, above 1000, an infinity or a NaN. */

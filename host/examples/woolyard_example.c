@@ -1,5 +1,5 @@
-/* The header in use: a state, one side of it, the state with a book, another fluid, a walk, refusals, the heat capacity, the excess
- * viscosity factor, a sheet and its lines, and a faulty sheet. */
+/* The header in use: a state, one side of it, the state with a book, another fluid, a walk, a band, refusals, the heat capacity, the
+ * excess viscosity factor, a sheet and its lines, and a faulty sheet. */
 #include "woolyard.h"
 #include <inttypes.h>
 #include <stdio.h>
@@ -47,6 +47,13 @@ int main(void)
            walked[WOOLYARD_WALK_ROOT], walked[WOOLYARD_WALK_VALUES]);
     number = woolyard_walk(WOOLYARD_OXYGEN, 120000, 500000, 8410, walked);
     printf("with a limit of 8410: reply %" PRIu64 "\n", number);
+
+    uint64_t roots[2];
+    number = woolyard_band(WOOLYARD_OXYGEN, 120000, 500000, 950, 1050, roots);
+    printf("with 0.950 to 1.050 of its attraction: reply %" PRIu64 ", gas roots %" PRIu64 " to %" PRIu64 "\n", number,
+           roots[WOOLYARD_BAND_LOWER], roots[WOOLYARD_BAND_UPPER]);
+    number = woolyard_band(WOOLYARD_OXYGEN, 120000, 500000, 1050, 950, roots);
+    printf("with 1.050 to 0.950 of it: reply %" PRIu64 "\n", number);
 
     number = woolyard_state(WOOLYARD_OXYGEN, 55999, 500000, figures);
     printf("oxygen at 55999 mK: reply %" PRIu64 "\n", number);

@@ -11,16 +11,18 @@ ANSWERED, SHEET_MALFORMED = 0, 6
 OXYGEN, NITROGEN, GAS, DENSE, KIND_SPLIT, BOOK_BYTES, WALK_ENOUGH = 1, 2, 0, 1, 2, 192, 100001
 
 woolyard = ctypes.CDLL(sys.argv[1])
-Figures, SideFigures, Walked, Three, Book = c_uint64 * 5, c_uint64 * 2, c_uint64 * 2, c_uint64 * 3, c_uint8 * BOOK_BYTES
+Figures, SideFigures, Walked, Roots = c_uint64 * 5, c_uint64 * 2, c_uint64 * 2, c_uint64 * 2
+Three, Book = c_uint64 * 3, c_uint8 * BOOK_BYTES
 woolyard.woolyard_state.argtypes = [c_uint64, c_uint64, c_uint64, Figures]
 woolyard.woolyard_state_with_book.argtypes = [c_uint64, c_uint64, c_uint64, c_uint64, Book, c_size_t, Figures]
 woolyard.woolyard_side.argtypes = [c_uint64, c_uint64, c_uint64, c_uint64, SideFigures]
 woolyard.woolyard_walk.argtypes = [c_uint64, c_uint64, c_uint64, c_uint64, Walked]
+woolyard.woolyard_band.argtypes = [c_uint64, c_uint64, c_uint64, c_uint64, c_uint64, Roots]
 woolyard.woolyard_heat.argtypes = [c_double, ctypes.POINTER(c_double)]
 woolyard.woolyard_viscosity.argtypes = [c_uint64, ctypes.POINTER(c_uint64)]
 woolyard.woolyard_sheet.argtypes = [ctypes.c_char_p, c_size_t, Three]
 woolyard.woolyard_sheet_line.argtypes = [ctypes.c_char_p, c_size_t, c_uint64, Three]
-for name in ("state", "state_with_book", "side", "walk", "heat", "viscosity", "sheet", "sheet_line"):
+for name in ("state", "state_with_book", "side", "walk", "band", "heat", "viscosity", "sheet", "sheet_line"):
     getattr(woolyard, f"woolyard_{name}").restype = c_uint64
 
 
@@ -66,6 +68,13 @@ root, values = walked
 print(f"oxygen at 120000 mK and 500000 Pa, walked: reply {number}, gas root {root} after {values} values")
 number = woolyard.woolyard_walk(OXYGEN, 120000, 500000, 8410, walked)
 print(f"with a limit of 8410: reply {number}")
+
+roots = Roots()
+number = woolyard.woolyard_band(OXYGEN, 120000, 500000, 950, 1050, roots)
+lower_root, upper_root = roots
+print(f"with 0.950 to 1.050 of its attraction: reply {number}, gas roots {lower_root} to {upper_root}")
+number = woolyard.woolyard_band(OXYGEN, 120000, 500000, 1050, 950, roots)
+print(f"with 1.050 to 0.950 of it: reply {number}")
 
 number = woolyard.woolyard_state(OXYGEN, 55999, 500000, figures)
 print(f"oxygen at 55999 mK: reply {number}")

@@ -5,6 +5,7 @@ pub mod Lines
 pub mod Roots
 pub mod Existence
 pub mod Theorems
+pub mod Attraction
 pub mod Widths
 pub mod Room
 pub mod Falls

@@ -8,7 +8,7 @@ use Prim.Native.Nat.{ℕ}
 use native.Mathlib.Omega.{arith}
 use lib.Dec.{eqb}
 use Rattle.refusals.specs.declared.Refusal.{Refusal}
-use Rattle.refusals.specs.declared.Refusal.the-variants.{NoSuchFluid, TemperatureTooLow, TemperatureTooHigh, PressureTooLow, PressureTooHigh, NoSuchSide, NoSuchSlot, WalkCutShort}
+use Rattle.refusals.specs.declared.Refusal.the-variants.{NoSuchFluid, TemperatureTooLow, TemperatureTooHigh, PressureTooLow, PressureTooHigh, NoSuchSide, NoSuchSlot, WalkCutShort, ScalingOutOfRange}
 use Rattle.refusals.specs.Numbers.{numberOfRefusal}
 use Rattle.refusals.proofs.Lists.{none-or-first}
 use Rattle.refusals.specs.Checks.{Check, NoneOf, FirstOf, Tells, refuses, answers, Outcome, with-value, with-number, Gives}
@@ -66,7 +66,7 @@ find number [] = NoSuchFluid
 find number (refusal ∷ refusals) = cond (eqb (numberOfRefusal refusal) number) refusal (find number refusals)
 
 pub refusalOf : ℕ → Refusal
-refusalOf number = find number (NoSuchFluid ∷ TemperatureTooLow ∷ TemperatureTooHigh ∷ PressureTooLow ∷ PressureTooHigh ∷ NoSuchSide ∷ NoSuchSlot ∷ WalkCutShort ∷ [])
+refusalOf number = find number (NoSuchFluid ∷ TemperatureTooLow ∷ TemperatureTooHigh ∷ PressureTooLow ∷ PressureTooHigh ∷ NoSuchSide ∷ NoSuchSlot ∷ WalkCutShort ∷ ScalingOutOfRange ∷ [])
 
 pub refusal-of-number : (refusal : Refusal) → refusalOf (numberOfRefusal refusal) ≡ refusal
 unfolding refusalOf find
@@ -78,6 +78,7 @@ refusal-of-number PressureTooHigh = refl
 refusal-of-number NoSuchSide = refl
 refusal-of-number NoSuchSlot = refl
 refusal-of-number WalkCutShort = refl
+refusal-of-number ScalingOutOfRange = refl
 
 -- no refusal has the number of an answered call
 pub never-zero : (refusal : Refusal) → numberOfRefusal refusal ≡ 0 → ⊥

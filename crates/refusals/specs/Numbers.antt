@@ -1,7 +1,7 @@
--- Document 01, "Replies", and document 02, C-12, C-14 and C-18: the number of each refusal of a state.
+-- Document 01, "Replies", and document 02, C-12, C-14, C-18 and C-22: the number of each refusal of a state.
 use Prim.Native.Nat.{ℕ}
 use Rattle.refusals.specs.declared.Refusal.{Refusal}
-use Rattle.refusals.specs.declared.Refusal.the-variants.{NoSuchFluid, TemperatureTooLow, TemperatureTooHigh, PressureTooLow, PressureTooHigh, NoSuchSide, NoSuchSlot, WalkCutShort}
+use Rattle.refusals.specs.declared.Refusal.the-variants.{NoSuchFluid, TemperatureTooLow, TemperatureTooHigh, PressureTooLow, PressureTooHigh, NoSuchSide, NoSuchSlot, WalkCutShort, ScalingOutOfRange}
 
 abbrev pub numberOfRefusal : Refusal → ℕ
 numberOfRefusal NoSuchFluid = 1
@@ -12,3 +12,4 @@ numberOfRefusal PressureTooHigh = 32
 numberOfRefusal NoSuchSide = 12
 numberOfRefusal NoSuchSlot = 4
 numberOfRefusal WalkCutShort = 11
+numberOfRefusal ScalingOutOfRange = 13

@@ -12,6 +12,7 @@ pub enum Refusal {
     NoSuchSide,
     NoSuchSlot,
     WalkCutShort,
+    ScalingOutOfRange,
 }
 
 impl Refusal {
@@ -27,6 +28,7 @@ impl Refusal {
             Refusal::NoSuchSide => 12,
             Refusal::NoSuchSlot => 4,
             Refusal::WalkCutShort => 11,
+            Refusal::ScalingOutOfRange => 13,
         }
     }
 }

@@ -5,4 +5,5 @@ pub mod Existence
 pub mod Sharing
 pub mod Theorems
 pub mod Walks
+pub mod Bands
 pub mod Finer

@@ -16,6 +16,8 @@ use Rattle.replies.proofs.Theorems.{refused-carries-zeros, refused-side-carries
 use Rattle.state.proofs.Theorems as state
 use Rattle.walks.specs.declared.replies.WalkFigures.{WalkFigures}
 use Rattle.walks.proofs.Theorems as walks
+use Rattle.bands.specs.declared.replies.BandFigures.{BandFigures}
+use Rattle.bands.proofs.Theorems as bands
 use Rattle.heat.specs.Replies.{numberOf}
 use Rattle.heat.proofs.Theorems as heat
 use Rattle.viscosity.specs.declared.replies.ExcessFigures.{ExcessFigures}
@@ -28,6 +30,7 @@ use Rattle.readings.proofs.Theorems as replies
 use Rattle.woolyard.specs.States.{fiveOf, Laid, StateAnswers, BookAnswers}
 use Rattle.woolyard.specs.Sides.{twoOf, SideLaid, SideAnswers, SideBookAnswers}
 use Rattle.woolyard.specs.Walks.{walkedOf, WalkAnswers}
+use Rattle.woolyard.specs.Bands.{rootsOf, BandAnswers}
 use Rattle.woolyard.specs.Heats.{bitsAfter, HeatAnswers}
 use Rattle.woolyard.specs.Viscosities.{ViscosityAnswers}
 use Rattle.woolyard.specs.Sheets.{readingOf, SheetAnswers, stateOf, LineAnswers}
@@ -107,6 +110,17 @@ module _ (fluid millikelvin pascals limit : ℕ) where
   walk-determined p q =
       told-alike (λ (f : WalkFigures). f .number) walkedOf
       (walks.told-once fluid millikelvin pascals limit (p .figures) (q .figures) (p .replies) (q .replies)) (p .is-number) (q .is-number) (p .is-walked) (q .is-walked)
+
+-- ---- bands
+module _ (fluid millikelvin pascals lower upper : ℕ) where
+  pub band-determined : {number number′ : ℕ} {roots roots′ : List ℕ} → BandAnswers fluid millikelvin pascals lower upper number roots → BandAnswers fluid millikelvin pascals lower upper number′ roots′ → (number ≡ number′) × (roots ≡ roots′)
+  band-determined p q =
+      told-alike (λ (f : BandFigures). f .number) rootsOf
+      (bands.told-once fluid millikelvin pascals lower upper (p .figures) (q .figures) (p .replies) (q .replies)) (p .is-number) (q .is-number) (p .is-roots) (q .is-roots)
+
+  pub refused-band-lays-zeros : {number : ℕ} {roots : List ℕ} → BandAnswers fluid millikelvin pascals lower upper number roots → (number ≡ 0 → ⊥) → roots ≡ 0 ∷ 0 ∷ []
+  refused-band-lays-zeros p refused =
+      p .is-roots ∙ ap rootsOf (bands.refused-band-carries-zeros fluid millikelvin pascals lower upper (p .figures) (p .replies) (λ answered. refused (p .is-number ∙ answered)))
 
 -- ---- the heat capacity
 pub heat-determined : (kelvin : Float) (before number number′ after after′ : ℕ) → HeatAnswers kelvin before number after → HeatAnswers kelvin before number′ after′ → (number ≡ number′) × (after ≡ after′)

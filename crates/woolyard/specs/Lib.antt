@@ -2,6 +2,7 @@
 pub mod States
 pub mod Sides
 pub mod Walks
+pub mod Bands
 pub mod Heats
 pub mod Viscosities
 pub mod Sheets

@@ -6,6 +6,7 @@ mod layout;
 ghost use Rattle.woolyard.specs.States.{StateAnswers, BookAnswers};
 ghost use Rattle.woolyard.specs.Sides.{SideAnswers, SideBookAnswers};
 ghost use Rattle.woolyard.specs.Walks.{WalkAnswers};
+ghost use Rattle.woolyard.specs.Bands.{BandAnswers};
 ghost use Rattle.woolyard.specs.Heats.{HeatAnswers};
 ghost use Rattle.woolyard.specs.Viscosities.{ViscosityAnswers};
 ghost use Rattle.woolyard.specs.Sheets.{SheetAnswers, LineAnswers};
@@ -90,6 +91,24 @@ pub extern "C" fn woolyard_walk(
     let reply = state::walk(fluid, millikelvin, pascals, limit);
     let told = reply.figures();
     *walked = [told.gas_root, told.values];
+    told.number
+}
+
+// The gas root of a state at two scalings of its a: the array gets that at the lower one first.
+#[no_mangle]
+pub extern "C" fn woolyard_band(
+    fluid: u64,
+    millikelvin: u64,
+    pascals: u64,
+    lower: u64,
+    upper: u64,
+    roots: &mut [u64; 2],
+) -> u64
+    ensures { λ r. ⌜ BandAnswers fluid millikelvin pascals lower upper r (now (roots .exit)) ⌝ }
+{
+    let reply = state::band(fluid, millikelvin, pascals, lower, upper);
+    let told = reply.figures();
+    *roots = [told.at_lower, told.at_upper];
     told.number
 }
 

@@ -24,6 +24,9 @@ impl Display for Report {
         writeln!(out, "\n## The walk\n")?;
         self.write_about_walks(out)?;
         self.write_walks(out)?;
+        writeln!(out, "\n## Bands\n")?;
+        self.write_about_bands(out)?;
+        self.write_bands(out)?;
         writeln!(out, "\n## Program `sheet`\n")?;
         self.write_programs(out)?;
         write_about_programs(out)?;
@@ -121,6 +124,21 @@ the gas root works out {mean} values in the mean, {fewest} in the shortest and {
 the clock runs, each walk is checked to end at the gas root of the quick call and to count N + b - z + 1.
 The walk and the quick call are timed in rounds of their own, as above. On so few states the quick call takes less
 than on all: the processor remembers how its branches went.
+
+"
+        )
+    }
+
+    fn write_about_bands(&self, out: &mut Formatter) -> Result {
+        let (scanned, ratio) = (self.scanned, self.bands.beside_refused());
+        write!(
+            out,
+            "\
+Nanoseconds per state for the gas root at two scalings of a, in thousandths, on all states and in rounds of
+their own. For a call without densities stands one for side 2, which there is not: it is refused by 12 once both
+roots are found, and so takes {ratio:.1} times as long as one that is refused by 31 before that. Before the clock runs,
+each band from 1000 to 1000 is checked to be the state's own gas root twice, the other two to lie around that, and
+those of the {scanned} states that are scanned to be what the second implementation answers.
 
 "
         )

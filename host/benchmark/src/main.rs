@@ -4,6 +4,7 @@
 //! same to docs/BENCHMARK.md, and ends with status 1 where a bar is missed. With words, it times the
 //! shared objects of these names beside each other and writes no file.
 
+mod bands;
 mod beside;
 mod contenders;
 mod document;
@@ -16,6 +17,7 @@ mod rounds;
 mod states;
 mod walks;
 
+use bands::Bands;
 use contenders::{Starts, Timings};
 use report::Report;
 use second::random::Random;
@@ -49,6 +51,7 @@ fn main() -> ExitCode {
         counted: counted.len(),
         timings: Timings::measure(&timed, &starts),
         walks: Walks::measure(&scanned),
+        bands: Bands::measure(&timed, &scanned),
         scan: contenders::scan(&scanned),
         programs: programs::user_times(),
         solver: floors::of_solver(&counted),

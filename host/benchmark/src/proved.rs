@@ -1,7 +1,7 @@
 //! The proved library, asked for the states of the second implementation.
 
 use second::sheet::State;
-use woolyard::boundary::{self, FIGURES, SIDE_FIGURES, WALK_FIGURES};
+use woolyard::boundary::{self, BAND_ROOTS, FIGURES, SIDE_FIGURES, WALK_FIGURES};
 use woolyard::{Answer, Fluid, Side, BOOK_BYTES};
 
 /// The reply's number; the figures are written.
@@ -37,10 +37,28 @@ pub fn side(state: &State, side: Side, figures: &mut [u64; SIDE_FIGURES]) -> u64
     boundary::side(fluid, millikelvin, pascals, side.number(), figures)
 }
 
+/// Side 2, which there is not: an accepted state is refused by 12 after its roots are found and before any
+/// density is.
+#[inline]
+pub fn without_densities(state: &State, figures: &mut [u64; SIDE_FIGURES]) -> u64 {
+    boundary::side(state.fluid, state.millikelvin, state.pascals, 2, figures)
+}
+
 /// The number of the reply to a walk; the gas root and the count are written.
 #[inline]
 pub fn walk(state: &State, limit: u64, walked: &mut [u64; WALK_FIGURES]) -> u64 {
     boundary::walk(state.fluid, state.millikelvin, state.pascals, limit, walked)
+}
+
+/// The number of the reply to a band; the gas roots at both scalings are written.
+#[inline]
+pub fn band(state: &State, [lower, upper]: [u64; 2], roots: &mut [u64; BAND_ROOTS]) -> u64 {
+    let State {
+        fluid,
+        millikelvin,
+        pascals,
+    } = *state;
+    boundary::band(fluid, millikelvin, pascals, lower, upper, roots)
 }
 
 /// The answer to a state that the library accepts.

@@ -1,5 +1,6 @@
 //! What was measured: the tables of docs/BENCHMARK.md, and the bars.
 
+use crate::bands::Bands;
 use crate::contenders::Timings;
 use crate::floors::{with_a_zero, Difference};
 use crate::programs::{UserTimes, PROVED_RUNS, SECOND_RUNS};
@@ -16,6 +17,7 @@ pub struct Report {
     pub counted: usize,
     pub timings: Timings,
     pub walks: Walks,
+    pub bands: Bands,
     pub scan: f64,
     pub programs: UserTimes,
     pub solver: Vec<Difference>,
@@ -40,7 +42,7 @@ impl Report {
         self.bars().iter().all(Bar::met)
     }
 
-    pub fn bars(&self) -> [Bar; 6] {
+    pub fn bars(&self) -> [Bar; 8] {
         let bar = |of, above: f64, below: f64, most| Bar {
             of,
             ratio: above / below,
@@ -48,6 +50,8 @@ impl Report {
         };
         let times = &self.timings;
         let [call, zeros] = [times.call.median, times.zeros.median];
+        let bands = &self.bands;
+        let without_densities = bands.without_densities.median;
         let UserTimes { proved, second } = self.programs;
         [
             bar("proved call / GSL", call, times.peer.median, 1.0),
@@ -69,6 +73,18 @@ impl Report {
                 times.strangers_start.median,
                 zeros,
                 1.1,
+            ),
+            bar(
+                "band from 950 to 1050 / call without densities",
+                bands.narrow.median,
+                without_densities,
+                2.0,
+            ),
+            bar(
+                "band from 500 to 1500 / call without densities",
+                bands.widest.median,
+                without_densities,
+                2.0,
             ),
             bar(
                 "program `sheet` / second implementation's",
@@ -127,6 +143,32 @@ impl Report {
             let ratio = nanoseconds / walk;
             let nanoseconds = grouped(nanoseconds.round() as usize);
             writeln!(out, "| {what} | {nanoseconds} | {ratio:.3} |")?;
+        }
+        Ok(())
+    }
+
+    pub fn write_bands(&self, out: &mut Formatter) -> Result {
+        let bands = &self.bands;
+        writeln!(
+            out,
+            "| what | median round | quickest round | beside a call without densities |"
+        )?;
+        writeln!(out, "|---|---:|---:|---:|")?;
+        for (what, Timing { median, quickest }) in [
+            ("band from 950 to 1050, `woolyard_band`", bands.narrow),
+            ("band from 500 to 1500", bands.widest),
+            ("band from 1000 to 1000", bands.unchanged),
+            (
+                "call without densities, `woolyard_side` for side 2",
+                bands.without_densities,
+            ),
+            (
+                "the same for a pressure that is too low",
+                bands.refused_at_once,
+            ),
+        ] {
+            let ratio = median / bands.without_densities.median;
+            writeln!(out, "| {what} | {median:.1} | {quickest:.1} | {ratio:.3} |")?;
         }
         Ok(())
     }

@@ -10,19 +10,21 @@ pub enum Function {
     Side = 2,
     SideWithBook = 3,
     Walk = 4,
-    Heat = 5,
-    Viscosity = 6,
-    Sheet = 7,
-    SheetLine = 8,
+    Band = 5,
+    Heat = 6,
+    Viscosity = 7,
+    Sheet = 8,
+    SheetLine = 9,
 }
 
 /// The names in the header, in the order of the numbers.
-pub const NAMES: [&str; 9] = [
+pub const NAMES: [&str; 10] = [
     "woolyard_state",
     "woolyard_state_with_book",
     "woolyard_side",
     "woolyard_side_with_book",
     "woolyard_walk",
+    "woolyard_band",
     "woolyard_heat",
     "woolyard_viscosity",
     "woolyard_sheet",
@@ -105,6 +107,12 @@ impl Call {
         Call::new(Function::Walk, [fluid, millikelvin, pascals, limit])
     }
 
+    /// The scalings in the order in which they are told.
+    pub fn band([fluid, millikelvin, pascals]: [u64; 3], [lower, upper]: [u64; 2]) -> Call {
+        let arguments = [fluid, millikelvin, pascals, lower, upper];
+        Call::new(Function::Band, arguments)
+    }
+
     pub fn heat(kelvin_pattern: u64) -> Call {
         Call::new(Function::Heat, [kelvin_pattern])
     }
@@ -149,6 +157,7 @@ impl fmt::Display for Call {
             Function::State
             | Function::Side
             | Function::Walk
+            | Function::Band
             | Function::Heat
             | Function::Viscosity => Ok(()),
             Function::StateWithBook | Function::SideWithBook => {
@@ -175,6 +184,7 @@ impl Call {
                 format!("{state}, side {fourth}, slot {fifth}, book length {length}")
             }
             Function::Walk => format!("{state}, limit {fourth}"),
+            Function::Band => format!("{state}, lower {fourth}, upper {fifth}"),
             Function::Heat => format!("kelvin {first:#018x} or {}", f64::from_bits(first)),
             Function::Viscosity => format!("thousandths {first}"),
             Function::Sheet => format!("length {length}"),

@@ -127,6 +127,7 @@ mod tests {
         vec![
             Call::state(state),
             Call::walk(state, 8411),
+            Call::band(state, [950, 1050]),
             Call::heat(0),
             Call::viscosity(1000),
             Call::sheet(b"0\n0\n0\n0", 6),
@@ -201,6 +202,33 @@ mod tests {
                 assert!(told.contains(&format!("pascals 500000, limit {limit}) over")));
             }
         }
+    }
+
+    /// Of a band that is answered, of one whose scalings are refused, and of one whose state is: in the number,
+    /// in each root, in the order of the two, and in a place that it does not have.
+    #[test]
+    fn differences_of_a_band() {
+        for (state, [lower, upper]) in [
+            ([1, 120_000, 500_000], [950, 1050]),
+            ([1, 120_000, 500_000], [1050, 950]),
+            ([1, 55_999, 500_000], [950, 1050]),
+        ] {
+            let band = || vec![Call::band(state, [lower, upper])];
+            assert_eq!(outcome(band(), |_| ()), Ok(()));
+            let changes: [fn(&mut Call); 4] = [
+                |call| call.number ^= 13,
+                |call| call.places[0] += 1,
+                |call| call.places[1] += 1,
+                |call| call.places[2] ^= 1,
+            ];
+            for change in changes {
+                let told = outcome(band(), change).expect_err("a difference");
+                assert!(told.contains(&format!("500000, lower {lower}, upper {upper}) over")));
+            }
+        }
+        let answered = vec![Call::band([1, 120_000, 500_000], [950, 1050])];
+        let told = outcome(answered, |call| call.places.swap(0, 1)).expect_err("a difference");
+        assert!(told.contains("answers 0 and [92232, 93155, "));
     }
 
     /// Of an answered factor and of one that is refused: in the number, and in the place.

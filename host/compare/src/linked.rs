@@ -29,6 +29,10 @@ fn make(call: &mut Call) {
             boundary::side_with_book(first, second, third, fourth, fifth, book, figures)
         }
         Function::Walk => boundary::walk(first, second, third, fourth, first_of(&mut call.places)),
+        Function::Band => {
+            let roots = first_of(&mut call.places);
+            boundary::band(first, second, third, fourth, fifth, roots)
+        }
         Function::Heat => heat(first, &mut call.places[0]),
         Function::Viscosity => boundary::viscosity(first, &mut call.places[0]),
         Function::Sheet => boundary::sheet(&call.sheet[..call.length], first_of(&mut call.places)),

@@ -1,5 +1,6 @@
 //! What is compared, in pieces that the workers share out.
 
+mod bands;
 mod books;
 mod doubles;
 mod sheets;
@@ -51,6 +52,7 @@ pub fn units() -> Vec<Unit> {
     units.extend(sides::units());
     units.extend(books::units());
     units.extend(walks::units());
+    units.extend(bands::units());
     units.extend(states::units());
     units.extend(split::units());
     units

@@ -2,6 +2,7 @@
 
 use crate::boundary::Boundary;
 use crate::call::{Call, Function};
+use second::band::{BandReply, Scaled};
 use second::heat::heat_capacity;
 use second::sheet::{self, Refusal};
 use second::state::{put_into_book, put_side_into_book, reply, side_of, Reply, SideReply};
@@ -14,11 +15,12 @@ use std::io;
 const MOST_KNOWN: usize = 10_000;
 
 /// Since a scan of the grid is long, and so may a walk be, each state is answered once for all calls that
-/// ask for it soon.
+/// ask for it soon; with its a scaled, once for each scaled a.
 #[derive(Default)]
 pub struct Second {
     known: HashMap<[u64; 3], Reply>,
     walked: HashMap<[u64; 3], WalkReply>,
+    scaled: HashMap<[u64; 3], Scaled>,
 }
 
 impl Boundary for Second {
@@ -30,6 +32,7 @@ impl Boundary for Second {
                 Function::Side => self.side(call),
                 Function::SideWithBook => self.side_with_book(call),
                 Function::Walk => self.walk(call),
+                Function::Band => self.band(call),
                 Function::Heat => heat(call),
                 Function::Viscosity => viscosity(call),
                 Function::Sheet => whole_sheet(call),
@@ -58,6 +61,16 @@ impl Second {
         let [fluid, millikelvin, pascals] = state;
         let walked = self.walked.entry(state);
         *walked.or_insert_with(|| walk_reply(fluid, millikelvin, pascals, u64::MAX))
+    }
+
+    pub fn band_reply(&mut self, state: [u64; 3], [lower, upper]: [u64; 2]) -> BandReply {
+        if self.scaled.len() >= MOST_KNOWN {
+            self.scaled.clear();
+        }
+        let [fluid, millikelvin, pascals] = state;
+        let scaled = self.scaled.entry(state);
+        let scaled = scaled.or_insert_with(|| Scaled::new(fluid, millikelvin, pascals));
+        scaled.band(lower, upper)
     }
 
     fn reply_to(&mut self, call: &Call) -> Reply {
@@ -92,6 +105,13 @@ impl Second {
     fn walk(&mut self, call: &mut Call) {
         let [fluid, millikelvin, pascals, limit, _] = call.arguments;
         let reply = limited(self.whole_walk([fluid, millikelvin, pascals]), limit);
+        call.number = reply.number;
+        call.places[..2].copy_from_slice(&reply.figures());
+    }
+
+    fn band(&mut self, call: &mut Call) {
+        let [fluid, millikelvin, pascals, lower, upper] = call.arguments;
+        let reply = self.band_reply([fluid, millikelvin, pascals], [lower, upper]);
         call.number = reply.number;
         call.places[..2].copy_from_slice(&reply.figures());
     }

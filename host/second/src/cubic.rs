@@ -17,7 +17,7 @@ pub fn g(a: u64, b: u64, z: u64) -> i128 {
 /// is also z (z + b) (z - N - b) + N a (z - b), which is positive there.
 pub fn crossings(a: u64, b: u64) -> Vec<u64> {
     let mut found = Vec::new();
-    let mut values = Values::new(a, b);
+    let mut values = Values::at(a, b, 0);
     for z in 0..N + b + 1 {
         let here = values.here;
         values.step();
@@ -28,10 +28,22 @@ pub fn crossings(a: u64, b: u64) -> Vec<u64> {
     found
 }
 
+/// The last of them: from N + b down, the first place at which g is not positive. At b it is not, so there
+/// is one.
+pub fn largest_crossing(a: u64, b: u64) -> u64 {
+    let mut z = N + b;
+    let mut values = Values::at(a, b, z);
+    while values.here > 0 {
+        values.step_back();
+        z -= 1;
+    }
+    z
+}
+
 /// g at one place after the other. A cubic's third difference is the same everywhere, here 6, so each
-/// value follows from the one before by additions.
+/// value follows from the one beside it by additions.
 ///
-/// Up to LARGEST_A, LARGEST_B and the place N + b + 1 the four terms of g are at most 1.4e18, 1.3e17,
+/// Up to LARGEST_A, LARGEST_B and the place N + b + 2 the four terms of g are at most 1.4e18, 1.3e17,
 /// 2.3e18 and 2.0e18 in size, and the differences far smaller: no number passes the 9.2e18 of an i64.
 struct Values {
     here: i64,
@@ -40,15 +52,16 @@ struct Values {
 }
 
 impl Values {
-    /// At place 0.
-    fn new(a: u64, b: u64) -> Values {
+    /// Always inlined, as the compiler makes the scan slower by a quarter where this is a call.
+    #[inline(always)]
+    fn at(a: u64, b: u64, place: u64) -> Values {
         assert!(a <= LARGEST_A && b <= LARGEST_B, "a = {a}, b = {b}");
-        let [at_0, at_1, at_2] =
-            [0, 1, 2].map(|z| i64::try_from(g(a, b, z)).expect("a number of 64 bits"));
+        let [here, next, after_next] = [place, place + 1, place + 2]
+            .map(|z| i64::try_from(g(a, b, z)).expect("a number of 64 bits"));
         Values {
-            here: at_0,
-            first_difference: at_1 - at_0,
-            second_difference: at_2 - 2 * at_1 + at_0,
+            here,
+            first_difference: next - here,
+            second_difference: after_next - 2 * next + here,
         }
     }
 
@@ -57,6 +70,13 @@ impl Values {
         self.here += self.first_difference;
         self.first_difference += self.second_difference;
         self.second_difference += 6;
+    }
+
+    /// To the place before.
+    fn step_back(&mut self) {
+        self.second_difference -= 6;
+        self.first_difference -= self.second_difference;
+        self.here -= self.first_difference;
     }
 }
 
@@ -99,11 +119,31 @@ mod tests {
     #[test]
     fn running_values() {
         for (a, b) in points() {
-            let mut values = Values::new(a, b);
+            let mut values = Values::at(a, b, 0);
             for z in 0..=N + b + 1 {
                 assert_eq!(i128::from(values.here), g(a, b, z), "{a} {b} {z}");
                 values.step();
             }
+        }
+    }
+
+    /// Down from where the largest crossing is looked for, too.
+    #[test]
+    fn running_values_back() {
+        for (a, b) in points() {
+            let mut values = Values::at(a, b, N + b);
+            for z in (0..=N + b).rev() {
+                assert_eq!(i128::from(values.here), g(a, b, z), "{a} {b} {z}");
+                values.step_back();
+            }
+        }
+    }
+
+    #[test]
+    fn largest_is_the_last() {
+        for (a, b) in points() {
+            let all = crossings(a, b);
+            assert_eq!(all.last(), Some(&largest_crossing(a, b)), "{a} {b}");
         }
     }
 

@@ -342,7 +342,7 @@ fn side_refused(number: u64) -> SideReply {
 }
 
 /// What must fit into 64 bits, and is looked at rather than cut off.
-fn narrow(wide: u128) -> u64 {
+pub(crate) fn narrow(wide: u128) -> u64 {
     u64::try_from(wide).expect("a number of 64 bits")
 }
 

@@ -64,6 +64,15 @@ fn main() -> Result<(), Refusal> {
         println!("with a limit of 8410: reply {}", refusal.number());
     }
 
+    let band = woolyard::band(Fluid::Oxygen, 120_000, 500_000, 950, 1050)?;
+    println!(
+        "with 0.950 to 1.050 of its attraction: reply 0, gas roots {} to {}",
+        band.lower_root, band.upper_root
+    );
+    if let Err(refusal) = woolyard::band(Fluid::Oxygen, 120_000, 500_000, 1050, 950) {
+        println!("with 1.050 to 0.950 of it: reply {}", refusal.number());
+    }
+
     if let Err(refusal) = woolyard::state(Fluid::Oxygen, 55_999, 500_000) {
         println!("oxygen at 55999 mK: reply {}", refusal.number());
     }

@@ -1,4 +1,4 @@
-//! The nine functions of include/woolyard.h, as they are: numbers in, the reply's number out, and the
+//! The ten functions of include/woolyard.h, as they are: numbers in, the reply's number out, and the
 //! figures in the places that the caller lends. All that is unsafe stands here.
 //!
 //! The header asks that a pointer points to as many elements as its array or its length says, that it
@@ -16,6 +16,9 @@ pub const SIDE_FIGURES: usize = 2;
 
 /// How many figures a walk has.
 pub const WALK_FIGURES: usize = 2;
+
+/// How many roots a band has.
+pub const BAND_ROOTS: usize = 2;
 
 mod foreign {
     extern "C" {
@@ -57,6 +60,14 @@ mod foreign {
             pascals: u64,
             limit: u64,
             walked: *mut [u64; super::WALK_FIGURES],
+        ) -> u64;
+        pub fn woolyard_band(
+            fluid: u64,
+            millikelvin: u64,
+            pascals: u64,
+            lower: u64,
+            upper: u64,
+            roots: *mut [u64; super::BAND_ROOTS],
         ) -> u64;
         pub fn woolyard_heat(kelvin: f64, heat: *mut f64) -> u64;
         pub fn woolyard_viscosity(thousandths: u64, factor: *mut u64) -> u64;
@@ -147,6 +158,20 @@ pub fn walk(
 ) -> u64 {
     // SAFETY: `walked` is the two places that are written, and nothing else is lent.
     unsafe { foreign::woolyard_walk(fluid, millikelvin, pascals, limit, walked) }
+}
+
+/// `woolyard_band`: the gas root at the lower scaling and at the upper; both scalings may be any number.
+#[inline]
+pub fn band(
+    fluid: u64,
+    millikelvin: u64,
+    pascals: u64,
+    lower: u64,
+    upper: u64,
+    roots: &mut [u64; BAND_ROOTS],
+) -> u64 {
+    // SAFETY: `roots` is the two places that are written, and nothing else is lent.
+    unsafe { foreign::woolyard_band(fluid, millikelvin, pascals, lower, upper, roots) }
 }
 
 /// `woolyard_heat`: any double at all; where it is refused, `heat` is left alone.

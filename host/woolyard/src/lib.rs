@@ -27,8 +27,8 @@ mod reply;
 #[cfg(test)]
 mod tests;
 
-use boundary::{FIGURES, SIDE_FIGURES, WALK_FIGURES};
-pub use reply::{Answer, FaultySheet, Fluid, Kind, Refusal, Side, SideAnswer, State, Walk};
+use boundary::{BAND_ROOTS, FIGURES, SIDE_FIGURES, WALK_FIGURES};
+pub use reply::{Answer, Band, FaultySheet, Fluid, Kind, Refusal, Side, SideAnswer, State, Walk};
 
 /// How many bytes a book has.
 pub const BOOK_BYTES: usize = 192;
@@ -38,6 +38,11 @@ pub const SHEET_MOST_BYTES: usize = 65_536;
 
 /// A limit with which no walk is cut short.
 pub const WALK_ENOUGH: u64 = 100_001;
+
+/// The ends of the range of a scaling, in thousandths, and the scaling that changes nothing.
+pub const SCALING_LEAST: u64 = 500;
+pub const SCALING_MOST: u64 = 1500;
+pub const SCALING_NONE: u64 = 1000;
 
 /// The reply to a state: its five figures, or the first of refusals 21, 22, 31 and 32 that applies.
 pub fn state(fluid: Fluid, millikelvin: u64, pascals: u64) -> Result<Answer, Refusal> {
@@ -127,6 +132,39 @@ pub fn walk(fluid: Fluid, millikelvin: u64, pascals: u64, limit: u64) -> Result<
     Refusal::check(number)?;
     let [gas_root, values] = walked;
     Ok(Walk { gas_root, values })
+}
+
+/// What if the attraction is a little off: the gas root of a state at two scalings of its a, which is A* on
+/// the grid, as document 01 has it. The scalings are whole numbers of thousandths, from 500 to 1500, the lower
+/// first; they may be equal, and 1000 is a itself. The scaled a is rounded down, and b is left as it is. At every
+/// scaling from the lower to the upper the gas root lies between the two that are answered. The first of refusals
+/// 21, 22, 31, 32 and 13 that applies is given; 13 is for scalings out of order or range.
+///
+/// ```
+/// use woolyard::{Fluid, Refusal};
+///
+/// let band = woolyard::band(Fluid::Oxygen, 120_000, 500_000, 950, 1050)?;
+/// assert_eq!((band.lower_root, band.upper_root), (93_155, 92_232));
+/// let out_of_order = woolyard::band(Fluid::Oxygen, 120_000, 500_000, 1050, 950);
+/// assert_eq!(out_of_order, Err(Refusal::ScalingOutOfRange));
+/// # Ok::<(), Refusal>(())
+/// ```
+pub fn band(
+    fluid: Fluid,
+    millikelvin: u64,
+    pascals: u64,
+    lower: u64,
+    upper: u64,
+) -> Result<Band, Refusal> {
+    let mut roots = [0; BAND_ROOTS];
+    let fluid = fluid.number();
+    let number = boundary::band(fluid, millikelvin, pascals, lower, upper, &mut roots);
+    Refusal::check(number)?;
+    let [lower_root, upper_root] = roots;
+    Ok(Band {
+        lower_root,
+        upper_root,
+    })
 }
 
 /// Hydrogen's ideal heat capacity at a temperature in kelvin, any double at all: kJ/(kg K), equal bit

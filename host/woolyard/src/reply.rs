@@ -94,6 +94,15 @@ pub struct Walk {
     pub values: u64,
 }
 
+/// The gas roots of a band, in hundred-thousandths.
+#[derive(Clone, Copy, Debug, PartialEq, Eq, Hash)]
+pub struct Band {
+    /// At the lower scaling. It is the larger root of the two, or they are equal.
+    pub lower_root: u64,
+    /// At the upper scaling.
+    pub upper_root: u64,
+}
+
 /// A state line as written, in range or not.
 #[derive(Clone, Copy, Debug, PartialEq, Eq, Hash)]
 pub struct State {
@@ -113,6 +122,7 @@ pub enum Refusal {
     NoSuchSide = 12,
     NoSuchSlot = 4,
     WalkCutShort = 11,
+    ScalingOutOfRange = 13,
     HeatOutOfRange = 5,
     DensityOutOfRange = 15,
     SheetMalformed = 6,
@@ -121,7 +131,7 @@ pub enum Refusal {
 }
 
 impl Refusal {
-    const ALL: [Refusal; 13] = [
+    const ALL: [Refusal; 14] = [
         Refusal::NoSuchFluid,
         Refusal::TemperatureTooLow,
         Refusal::TemperatureTooHigh,
@@ -130,6 +140,7 @@ impl Refusal {
         Refusal::NoSuchSide,
         Refusal::NoSuchSlot,
         Refusal::WalkCutShort,
+        Refusal::ScalingOutOfRange,
         Refusal::HeatOutOfRange,
         Refusal::DensityOutOfRange,
         Refusal::SheetMalformed,
@@ -163,6 +174,9 @@ impl fmt::Display for Refusal {
             Refusal::NoSuchSide => "side is neither 0 nor 1",
             Refusal::NoSuchSlot => "book not of 192 bytes, or slot above 63",
             Refusal::WalkCutShort => "the limit of values is below what the walk needs",
+            Refusal::ScalingOutOfRange => {
+                "a scaling below 500 or above 1500 thousandths, or the lower one not first"
+            }
             Refusal::HeatOutOfRange => "heat-capacity temperature not a number in 14 to 1000 K",
             Refusal::DensityOutOfRange => "reduced density below 100 or above 3000 thousandths",
             Refusal::SheetMalformed => "sheet badly formed",

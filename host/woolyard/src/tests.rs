@@ -1,4 +1,4 @@
-//! Document 01, "Points worked through" and "State sheets", and document 02, C-14, C-18 to C-20 and C-24.
+//! Document 01, "Points worked through" and "State sheets", and document 02, C-14, C-18 to C-20, C-22 and C-24.
 
 use super::*;
 
@@ -154,22 +154,32 @@ fn numbers_of_the_sides() {
     assert_eq!(Refusal::check(12), Err(Refusal::NoSuchSide));
 }
 
-/// The state's own refusals come before 12, and both places are zeros in any case.
+/// A call on a state that has a refusal of its own: the state's own come before it, and what is written is zeros
+/// in any case but the last, whose two places are given.
+fn told_after_the_state(call: impl Fn([u64; 3], &mut [u64; 2]) -> u64, own: (u64, [u64; 2])) {
+    for (state, told) in [
+        ([3, 0, 0], (1, [0, 0])),
+        ([1, 55_999, 0], (21, [0, 0])),
+        ([1, 1_000_001, 0], (22, [0, 0])),
+        ([1, 120_000, 9_999], (31, [0, 0])),
+        ([1, 120_000, 50_000_001], (32, [0, 0])),
+        ([1, 120_000, 500_000], own),
+    ] {
+        let mut places = [7; 2];
+        let number = call(state, &mut places);
+        assert_eq!((number, places), told, "{state:?}");
+    }
+}
+
 #[test]
 fn sides_that_are_neither() {
     for side in NO_SIDES {
-        let call = |fluid, millikelvin, pascals| {
-            let mut figures = [7; SIDE_FIGURES];
-            let number = boundary::side(fluid, millikelvin, pascals, side, &mut figures);
-            assert_eq!(figures, [0; SIDE_FIGURES]);
-            number
-        };
-        assert_eq!(call(3, 0, 0), 1);
-        assert_eq!(call(1, 55_999, 0), 21);
-        assert_eq!(call(1, 1_000_001, 0), 22);
-        assert_eq!(call(1, 120_000, 9_999), 31);
-        assert_eq!(call(1, 120_000, 50_000_001), 32);
-        assert_eq!(call(1, 120_000, 500_000), 12);
+        told_after_the_state(
+            |[fluid, millikelvin, pascals], figures| {
+                boundary::side(fluid, millikelvin, pascals, side, figures)
+            },
+            (12, [0, 0]),
+        );
     }
 }
 
@@ -239,23 +249,94 @@ fn walks() {
     }
 }
 
-/// The count of a walk that is cut short is the limit. The state's own refusals come before 11 and have no
-/// count.
+/// The count of a walk that is cut short is the limit.
 #[test]
 fn walks_that_are_refused() {
     for limit in [0, 1, 8410] {
-        let call = |fluid, millikelvin, pascals| {
-            let mut walked = [7; WALK_FIGURES];
-            let number = boundary::walk(fluid, millikelvin, pascals, limit, &mut walked);
-            (number, walked)
-        };
-        assert_eq!(call(3, 0, 0), (1, [0, 0]));
-        assert_eq!(call(1, 55_999, 0), (21, [0, 0]));
-        assert_eq!(call(1, 1_000_001, 0), (22, [0, 0]));
-        assert_eq!(call(1, 120_000, 9_999), (31, [0, 0]));
-        assert_eq!(call(1, 120_000, 50_000_001), (32, [0, 0]));
-        assert_eq!(call(1, 120_000, 500_000), (11, [0, limit]));
+        told_after_the_state(
+            |[fluid, millikelvin, pascals], walked| {
+                boundary::walk(fluid, millikelvin, pascals, limit, walked)
+            },
+            (11, [0, limit]),
+        );
     }
+}
+
+fn two_roots(lower_root: u64, upper_root: u64) -> Band {
+    Band {
+        lower_root,
+        upper_root,
+    }
+}
+
+#[test]
+fn bands() {
+    let oxygen = |lower, upper| band(Fluid::Oxygen, 120_000, 500_000, lower, upper);
+    assert_eq!(oxygen(950, 1050), Ok(two_roots(93_155, 92_232)));
+    assert_eq!(oxygen(500, 1500), Ok(two_roots(97_086, 87_806)));
+    assert_eq!(oxygen(500, 500), Ok(two_roots(97_086, 97_086)));
+    assert_eq!(oxygen(1500, 1500), Ok(two_roots(87_806, 87_806)));
+}
+
+/// Where the gas root jumps: at the upper scaling no root but the dense one is left.
+#[test]
+fn bands_over_a_jump() {
+    let hydrogen = band(Fluid::Parahydrogen, 25_000, 400_000, 1229, 1230);
+    assert_eq!(hydrogen, Ok(two_roots(48_204, 5456)));
+    let oxygen = band(Fluid::Oxygen, 120_000, 1_500_000, 1273, 1274);
+    assert_eq!(oxygen, Ok(two_roots(48_702, 4434)));
+    let nitrogen = band(Fluid::Nitrogen, 100_000, 900_000, 1466, 1467);
+    assert_eq!(nitrogen, Ok(two_roots(49_524, 3716)));
+}
+
+/// At scaling 1000 a state has its own gas root, and at every other of a band one between those of the ends.
+#[test]
+fn roots_of_a_band() {
+    for (fluid, millikelvin, pascals) in [
+        (Fluid::Oxygen, 300_000, 1_000_000),
+        (Fluid::Oxygen, 120_000, 1_500_000),
+        (Fluid::Parahydrogen, 1_000_000, 10_000),
+        (Fluid::Parahydrogen, 14_000, 50_000_000),
+        (Fluid::Nitrogen, 90_000, 300_000),
+    ] {
+        let roots = |lower, upper| {
+            let band = band(fluid, millikelvin, pascals, lower, upper).expect("a band");
+            [band.lower_root, band.upper_root]
+        };
+        let own = state(fluid, millikelvin, pascals)
+            .expect("a state")
+            .gas_root;
+        assert_eq!(roots(SCALING_NONE, SCALING_NONE), [own, own]);
+        let [mut last, least] = roots(SCALING_LEAST, SCALING_MOST);
+        for scaling in SCALING_LEAST..=SCALING_MOST {
+            let [root, _] = roots(scaling, scaling);
+            assert!(least <= root && root <= last, "{scaling}");
+            last = root;
+        }
+    }
+}
+
+/// The second to last band is in range to whoever keeps 32 bits.
+#[test]
+fn bands_that_are_refused() {
+    for (lower, upper) in [
+        (499, 1000),
+        (1000, 1501),
+        (1001, 1000),
+        (1500, 500),
+        (0, 0),
+        (1 << 63, 1 << 63),
+        ((1 << 32) + 1000, (1 << 32) + 1000),
+        (u64::MAX, u64::MAX),
+    ] {
+        told_after_the_state(
+            |[fluid, millikelvin, pascals], roots| {
+                boundary::band(fluid, millikelvin, pascals, lower, upper, roots)
+            },
+            (13, [0, 0]),
+        );
+    }
+    assert_eq!(Refusal::check(13), Err(Refusal::ScalingOutOfRange));
 }
 
 #[test]

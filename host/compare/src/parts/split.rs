@@ -67,13 +67,16 @@ fn edges(comparison: &mut Comparison, seed: u64) -> Outcome {
     Ok(())
 }
 
-/// The last pressure before each change of the kind, wherever it changes between two pressures of the
-/// isotherm.
+/// The last pressure of the isotherm before each change of the kind.
 pub fn edges_of(comparison: &mut Comparison, [fluid, millikelvin]: [u64; 2]) -> Vec<u64> {
-    let mut kind = |pascals| {
+    changes(|pascals| {
         let state = [fluid, millikelvin, pascals];
         comparison.second().reply(state).kind
-    };
+    })
+}
+
+/// The last pressure before each change of the kind, wherever it changes between two of some pressures.
+pub fn changes(mut kind: impl FnMut(u64) -> u64) -> Vec<u64> {
     let pressures = pressures();
     let pairs = pressures.windows(2);
     pairs
@@ -148,8 +151,8 @@ fn pressures() -> Vec<u64> {
     pressures
 }
 
-/// The last pressure from `low` on with the kind of `low`, if `high` has another.
-fn last_before_change(
+/// The last number from `low` on with the kind of `low`, if `high` has another.
+pub fn last_before_change(
     mut low: u64,
     mut high: u64,
     kind: &mut impl FnMut(u64) -> u64,
