@@ -52,7 +52,7 @@ module _ (number millikelvin pascals : ℕ) where
       let same : p .reached ≡ q .reached = reached-once number millikelvin pascals (p .reached) (q .reached) (p .reaches) (q .reaches) in
       gas-falls-as-a-grows (q .reached .reduced .b) (scaled-rises (q .reached .reduced .a) in-order) (rw same at (p .is-gas)) (q .is-gas)
 
-  -- so at each scaling there is one, and there is one at each scaling of an accepted state
+  -- so at each scaling there is one at most, and an accepted state has one
   pub scaled-gas-root-unique : {thousandths gas gas′ : ℕ} → ScaledGasRoot number millikelvin pascals thousandths gas → ScaledGasRoot number millikelvin pascals thousandths gas′ → gas ≡ gas′
   scaled-gas-root-unique {thousandths} p q = le-antisymm (gas-falls-as-scaling-grows (le-refl thousandths) q p) (gas-falls-as-scaling-grows (le-refl thousandths) p q)
 

@@ -17,7 +17,8 @@ const LEAST: u64 = 500;
 
 const MOST: u64 = 1_500;
 
-// Whether both scalings are in range, the lower first. What lies between two that are is in range too.
+// Whether both scalings are in range, the lower first. As these are in order, each is tested at one end of the
+// range, and the other end follows.
 fn stand(lower: u64, upper: u64) -> bool
     ensures { λ r. ⌜ Stand lower upper r ⌝ }
 {
