@@ -85,11 +85,9 @@ fn refused(number: u64) -> BandReply {
 #[cfg(test)]
 mod tests {
     use super::*;
+    use crate::cases::{spread, REFUSED, WORKED};
     use crate::cubic::{crossings, LARGEST_A, LARGEST_B};
-    use crate::random::Random;
-    use crate::state::{
-        reply, FLUIDS, HIGHEST_PRESSURE, HOTTEST, HYDROGEN, LOWEST_PRESSURE, NITROGEN, OXYGEN,
-    };
+    use crate::state::{reply, FLUIDS, HIGHEST_PRESSURE, HYDROGEN, NITROGEN, OXYGEN};
 
     fn answered(lower_root: u64, upper_root: u64) -> BandReply {
         BandReply {
@@ -113,17 +111,10 @@ mod tests {
         assert_eq!(oxygen(1500, 1500), answered(87_806, 87_806));
     }
 
-    /// Document 01, "Points worked through", and C-20's states: each at scaling 1000 has its own gas root.
+    /// Each worked state at scaling 1000 has its own gas root.
     #[test]
     fn scaling_that_changes_nothing() {
-        for ([fluid, millikelvin, pascals], gas_root) in [
-            ([OXYGEN, 300_000, 1_000_000], 99_286),
-            ([OXYGEN, 120_000, 500_000], 92_696),
-            ([HYDROGEN, 300_000, 1_000_000], 100_474),
-            ([HYDROGEN, 1_000_000, 10_000], 100_001),
-            ([NITROGEN, 300_000, 1_000_000], 99_654),
-            ([NITROGEN, 90_000, 300_000], 91_704),
-        ] {
+        for ([fluid, millikelvin, pascals], _, gas_root) in WORKED {
             let band = band_reply(fluid, millikelvin, pascals, NONE, NONE);
             assert_eq!(band, answered(gas_root, gas_root));
         }
@@ -195,14 +186,7 @@ mod tests {
     /// The state's own refusals come before 13.
     #[test]
     fn order_of_the_refusals() {
-        for (fluid, millikelvin, pascals, number) in [
-            (3, 0, 0, 1),
-            (u64::MAX, 300_000, 1_000_000, 1),
-            (OXYGEN, 55_999, 0, 21),
-            (OXYGEN, 1_000_001, 0, 22),
-            (HYDROGEN, 14_000, 9_999, 31),
-            (NITROGEN, 64_000, 50_000_001, 32),
-        ] {
+        for ([fluid, millikelvin, pascals], number) in REFUSED {
             for (lower, upper) in [(1000, 1000), (499, 1000), (1000, 1501), (1001, 1000)] {
                 let reply = band_reply(fluid, millikelvin, pascals, lower, upper);
                 assert_eq!(reply, refused(number));
@@ -210,21 +194,10 @@ mod tests {
         }
     }
 
-    /// The worked ones and a spread over all magnitudes of pressure, at temperatures of all magnitudes above
-    /// each fluid's lowest.
-    fn states() -> Vec<[u64; 3]> {
-        let mut states = vec![
-            [OXYGEN, 120_000, 500_000],
-            [OXYGEN, 120_000, 1_500_000],
-            [HYDROGEN, 1_000_000, 10_000],
-        ];
-        let mut random = Random(22);
-        for fluid in FLUIDS.into_iter().cycle().take(30) {
-            let millikelvin = fluid.coldest + random.magnitude(HOTTEST - fluid.coldest);
-            let pascals = LOWEST_PRESSURE + random.magnitude(HIGHEST_PRESSURE - LOWEST_PRESSURE);
-            states.push([fluid.number, millikelvin, pascals]);
-        }
-        states
+    /// A spread, a state with a jump, and one whose a is 0.
+    fn states() -> impl Iterator<Item = [u64; 3]> {
+        let some = [[OXYGEN, 120_000, 1_500_000], [HYDROGEN, 1_000_000, 10_000]];
+        some.into_iter().chain(spread(30, 22))
     }
 
     /// The gas root that the scan of the whole grid finds: the state's own at scaling 1000, and that of the

@@ -3,6 +3,8 @@
 //! with them.
 
 pub mod band;
+#[cfg(test)]
+mod cases;
 pub mod cubic;
 pub mod heat;
 pub mod heat_list;

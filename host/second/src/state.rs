@@ -349,6 +349,7 @@ pub(crate) fn narrow(wide: u128) -> u64 {
 #[cfg(test)]
 mod tests {
     use super::*;
+    use crate::cases::REFUSED;
     use crate::cubic::{g, N};
     use crate::random::Random;
     use std::fmt::Debug;
@@ -696,24 +697,8 @@ mod tests {
     /// of the whole form, and nothing is written.
     #[test]
     fn order_of_the_refusals_with_a_side() {
-        let states = [
-            (3, 0, 0, 1),
-            (u64::MAX, 300_000, 1_000_000, 1),
-            (OXYGEN, 55_999, 0, 21),
-            (OXYGEN, 1_000_001, 0, 22),
-            (OXYGEN, 300_000, 9_999, 31),
-            (OXYGEN, 300_000, 50_000_001, 32),
-            (HYDROGEN, 13_999, u64::MAX, 21),
-            (HYDROGEN, u64::MAX, u64::MAX, 22),
-            (HYDROGEN, 14_000, 0, 31),
-            (HYDROGEN, 1_000_000, u64::MAX, 32),
-            (NITROGEN, 63_999, 0, 21),
-            (NITROGEN, 1_000_001, 0, 22),
-            (NITROGEN, 64_000, 9_999, 31),
-            (NITROGEN, 64_000, 50_000_001, 32),
-        ];
         let mut book = [7; BOOK_BYTES];
-        for (fluid, millikelvin, pascals, number) in states {
+        for ([fluid, millikelvin, pascals], number) in REFUSED {
             for side in [GAS, DENSE].into_iter().chain(NO_SIDES) {
                 let without = side_reply(fluid, millikelvin, pascals, side);
                 assert_eq!(without, side_refused(number));

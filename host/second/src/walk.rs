@@ -73,10 +73,8 @@ fn cut_short(limit: u64) -> WalkReply {
 #[cfg(test)]
 mod tests {
     use super::*;
-    use crate::random::Random;
-    use crate::state::{
-        reply, FLUIDS, HIGHEST_PRESSURE, HOTTEST, HYDROGEN, LOWEST_PRESSURE, NITROGEN, OXYGEN,
-    };
+    use crate::cases::{spread, REFUSED, WORKED};
+    use crate::state::{reply, FLUIDS, HYDROGEN, NITROGEN, OXYGEN};
 
     fn answered(gas_root: u64, values: u64) -> WalkReply {
         WalkReply {
@@ -90,18 +88,11 @@ mod tests {
         walk_reply(fluid, millikelvin, pascals, u64::MAX)
     }
 
-    /// Document 01, "Points worked through", and C-20's states: from the b of each down to its gas root.
+    /// From the b of each worked state down to its gas root.
     #[test]
     fn worked_points() {
-        for ([fluid, millikelvin, pascals], b, gas_root, values) in [
-            ([OXYGEN, 300_000, 1_000_000], 885, 99_286, 1600),
-            ([OXYGEN, 120_000, 500_000], 1106, 92_696, 8411),
-            ([HYDROGEN, 300_000, 1_000_000], 637, 100_474, 164),
-            ([HYDROGEN, 1_000_000, 10_000], 1, 100_001, 1),
-            ([NITROGEN, 300_000, 1_000_000], 1073, 99_654, 1420),
-            ([NITROGEN, 90_000, 300_000], 1073, 91_704, 9370),
-        ] {
-            assert_eq!(N + b - gas_root + 1, values);
+        for ([fluid, millikelvin, pascals], b, gas_root) in WORKED {
+            let values = N + b - gas_root + 1;
             let with = |limit| walk_reply(fluid, millikelvin, pascals, limit);
             for limit in [values, values + 1, ENOUGH, 1 << 32, 1 << 63, u64::MAX] {
                 assert_eq!(with(limit), answered(gas_root, values));
@@ -120,14 +111,7 @@ mod tests {
     /// The state's own refusals come before 11, whatever the limit, and bring zeros.
     #[test]
     fn order_of_the_refusals() {
-        for (fluid, millikelvin, pascals, number) in [
-            (3, 0, 0, 1),
-            (u64::MAX, 300_000, 1_000_000, 1),
-            (OXYGEN, 55_999, 0, 21),
-            (OXYGEN, 1_000_001, 0, 22),
-            (HYDROGEN, 14_000, 9_999, 31),
-            (NITROGEN, 64_000, 50_000_001, 32),
-        ] {
+        for ([fluid, millikelvin, pascals], number) in REFUSED {
             let refused = WalkReply {
                 number,
                 gas_root: 0,
@@ -157,23 +141,11 @@ mod tests {
         }
     }
 
-    /// The worked ones, some that are refused, and a spread over all magnitudes of pressure, at temperatures
-    /// of all magnitudes above each fluid's lowest: many of these are cold and dense.
-    fn states() -> Vec<[u64; 3]> {
-        let mut states = vec![
-            [OXYGEN, 300_000, 1_000_000],
-            [OXYGEN, 120_000, 500_000],
-            [HYDROGEN, 1_000_000, 10_000],
-            [OXYGEN, 55_999, 500_000],
-            [3, 300_000, 1_000_000],
-        ];
-        let mut random = Random(14);
-        for fluid in FLUIDS.into_iter().cycle().take(1200) {
-            let millikelvin = fluid.coldest + random.magnitude(HOTTEST - fluid.coldest);
-            let pascals = LOWEST_PRESSURE + random.magnitude(HIGHEST_PRESSURE - LOWEST_PRESSURE);
-            states.push([fluid.number, millikelvin, pascals]);
-        }
-        states
+    /// The worked ones, some that are refused, and a spread.
+    fn states() -> impl Iterator<Item = [u64; 3]> {
+        let worked = WORKED.into_iter().map(|(state, _, _)| state);
+        let refused = REFUSED.into_iter().map(|(state, _)| state);
+        worked.chain(refused).chain(spread(1200, 14))
     }
 
     #[test]
