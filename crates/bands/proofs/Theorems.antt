@@ -7,8 +7,8 @@ use native.Mathlib.Nat.{le-refl, le-antisymm}
 use Rattle.refusals.specs.Checks.{NoneOf, FirstOf, refuses, answers}
 use Rattle.refusals.specs.declared.Refusal.the-variants.{ScalingOutOfRange}
 use Rattle.refusals.specs.Numbers.{numberOfRefusal}
-use Rattle.refusals.proofs.Lists.{number-on-list, none-behind}
-use Rattle.refusals.proofs.Theorems.{refusalOf, refusal-of-number, never-zero, First, first-or-none, tells-once}
+use Rattle.refusals.proofs.Lists.{none-behind}
+use Rattle.refusals.proofs.Theorems.{number-determines-refusal, never-zero, First, first-or-none, tells-once, zero-is-answered}
 use Rattle.cubic.proofs.Theorems.{gas-root-exists}
 use Rattle.cubic.proofs.Attraction.{gas-falls-as-a-grows}
 use Rattle.fluid.specs.Checks.{stateChecks}
@@ -40,7 +40,7 @@ figures-determine-band-reply (Ends at-lower at-upper) (Ends at-lower′ at-upper
 figures-determine-band-reply (Ends at-lower at-upper) (Refused refusal) same = absurd (never-zero refusal (sym (ap numberIn same)))
 figures-determine-band-reply (Refused refusal) (Ends at-lower at-upper) same = absurd (never-zero refusal (ap numberIn same))
 figures-determine-band-reply (Refused refusal) (Refused refusal′) same =
-    ap Refused (sym (refusal-of-number refusal) ∙ ap refusalOf (ap numberIn same) ∙ refusal-of-number refusal′)
+    ap Refused (number-determines-refusal refusal refusal′ (ap numberIn same))
 
 pub band-figures-determined : (reply : BandReply) {f g : BandFigures} → f ≡ figuresOf reply → g ≡ figuresOf reply → f ≡ g
 band-figures-determined reply p q = p ∙ sym q
@@ -92,15 +92,13 @@ module _ (number millikelvin pascals : ℕ) where
 
     module _ (figures : BandFigures) (replies : Replies number millikelvin pascals lower upper figures) where
       answered : figures .number ≡ 0 → Allowed lower upper × Answered number millikelvin pascals lower upper figures
-      answered is-0 = by-reply replies
+      answered is-0 =
+          let told = zero-is-answered numberIn (allChecks number millikelvin pascals lower upper) refl (λ refusal told. ap numberIn told) is-0 replies in
+          (passed (none-behind (stateChecks number millikelvin pascals) (scalingChecks lower upper) (told .0) .0) (allowed-or-not lower upper), told .1)
         where
           passed : (NotAllowed lower upper → ⊥) → Allowed lower upper ⊎ NotAllowed lower upper → Allowed lower upper
           passed none (inl allowed) = allowed
           passed none (inr not-allowed) = absurd (none not-allowed)
-
-          by-reply : Replies number millikelvin pascals lower upper figures → Allowed lower upper × Answered number millikelvin pascals lower upper figures
-          by-reply (refuses refusal first told) = absurd (number-on-list 0 (allChecks number millikelvin pascals lower upper) refusal refl first (sym (ap numberIn told) ∙ is-0))
-          by-reply (answers none given) = (passed (none-behind (stateChecks number millikelvin pascals) (scalingChecks lower upper) none .0) (allowed-or-not lower upper), given)
 
       -- at every scaling from the lower to the upper, the ends included, the gas root lies between the two answered
       pub every-scaling-lies-between : figures .number ≡ 0 → {thousandths gas : ℕ} → lower ≤ thousandths → thousandths ≤ upper → ScaledGasRoot number millikelvin pascals thousandths gas → (figures .«at_upper» ≤ gas) × (gas ≤ figures .«at_lower»)

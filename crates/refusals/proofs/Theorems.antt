@@ -3,14 +3,14 @@
 use mathlib.Core.Path.{_≡_, refl, sym, ap, subst, _∙_}
 use mathlib.Core.Logic.{_⊎_, inl, inr}
 use mathlib.Core.List.{List, [], _∷_, _++_}
-use mathlib.Core.Bool.{cond}
+use mathlib.Core.Bool.{false, cond}
 use Prim.Native.Nat.{ℕ}
 use native.Mathlib.Omega.{arith}
 use lib.Dec.{eqb}
 use Rattle.refusals.specs.declared.Refusal.{Refusal}
 use Rattle.refusals.specs.declared.Refusal.the-variants.{NoSuchFluid, TemperatureTooLow, TemperatureTooHigh, PressureTooLow, PressureTooHigh, NoSuchSide, NoSuchSlot, WalkCutShort, ScalingOutOfRange}
 use Rattle.refusals.specs.Numbers.{numberOfRefusal}
-use Rattle.refusals.proofs.Lists.{none-or-first}
+use Rattle.refusals.proofs.Lists.{none-or-first, hasNumber, number-on-list}
 use Rattle.refusals.specs.Checks.{Check, NoneOf, FirstOf, Tells, refuses, answers, Outcome, with-value, with-number, Gives}
 
 pub first-once : (checks : List Check) (refusal other : ℕ) → FirstOf checks refusal → FirstOf checks other → refusal ≡ other
@@ -27,6 +27,12 @@ module _ {Figures : Type 0} (checks : List Check) {Refused : ℕ → Figures →
   tells-once figures other (refuses refusal first told) (answers none told′) = absurd (none-or-first checks refusal none first)
   tells-once figures other (answers none told) (refuses refusal first told′) = absurd (none-or-first checks refusal none first)
   tells-once figures other (answers none told) (answers none′ told′) = answered-once figures other told told′
+
+-- a call that tells 0, which is the number of no check, is answered
+pub zero-is-answered : {Figures : Type 0} (number-of : Figures → ℕ) (checks : List Check) {Refused : ℕ → Figures → Type 0} {Answers : Figures → Type 0} {figures : Figures} → hasNumber 0 checks ≡ false → ((refusal : ℕ) → Refused refusal figures → number-of figures ≡ refusal) → number-of figures ≡ 0 → Tells checks Refused Answers figures → NoneOf checks × Answers figures
+zero-is-answered number-of checks without tells-number is-0 (refuses refusal first told) =
+    absurd (number-on-list 0 checks refusal without first (sym (tells-number refusal told) ∙ is-0))
+zero-is-answered number-of checks without tells-number is-0 (answers none given) = (none, given)
 
 pub gives-once : {Value : Type 0} (checks : List Check) {Is : Value → Type 0} → ((given other : Value) → Is given → Is other → given ≡ other) → (outcome other : Outcome Value) → Gives checks Is outcome → Gives checks Is other → outcome ≡ other
 gives-once checks once (with-value given) (with-value given′) p q = ap with-value (once given given′ (p .1) (q .1))
@@ -79,6 +85,9 @@ refusal-of-number NoSuchSide = refl
 refusal-of-number NoSuchSlot = refl
 refusal-of-number WalkCutShort = refl
 refusal-of-number ScalingOutOfRange = refl
+
+pub number-determines-refusal : (refusal other : Refusal) → numberOfRefusal refusal ≡ numberOfRefusal other → refusal ≡ other
+number-determines-refusal refusal other same = sym (refusal-of-number refusal) ∙ ap refusalOf same ∙ refusal-of-number other
 
 -- no refusal has the number of an answered call
 pub never-zero : (refusal : Refusal) → numberOfRefusal refusal ≡ 0 → ⊥

@@ -2,7 +2,7 @@
 use mathlib.Core.Path.{_≡_, refl, sym, ap, ap₂, _∙_}
 use Prim.Native.Nat.{ℕ, zero, suc}
 use native.Mathlib.Omega.{arith}
-use Rattle.refusals.proofs.Theorems.{refusalOf, refusal-of-number, never-zero}
+use Rattle.refusals.proofs.Theorems.{refusalOf, refusal-of-number, number-determines-refusal, never-zero}
 use Rattle.cubic.specs.Cubic.{ONE}
 use Rattle.replies.specs.declared.Reply.{Reply}
 use Rattle.replies.specs.declared.Reply.the-variants.{One, Split, Refused}
@@ -51,7 +51,7 @@ figures-determine-side-reply (Side.Answered root density) (Side.Answered root′
 figures-determine-side-reply (Side.Answered root density) (Side.Refused refusal) same = absurd (never-zero refusal (sym (ap numberOf same)))
 figures-determine-side-reply (Side.Refused refusal) (Side.Answered root density) same = absurd (never-zero refusal (ap numberOf same))
 figures-determine-side-reply (Side.Refused refusal) (Side.Refused refusal′) same =
-    ap Side.Refused (sym (refusal-of-number refusal) ∙ ap refusalOf (ap numberOf same) ∙ refusal-of-number refusal′)
+    ap Side.Refused (number-determines-refusal refusal refusal′ (ap numberOf same))
 
 pub side-figures-determined : (reply : SideReply) {f g : SideFigures} → f ≡ sideFiguresOf reply → g ≡ sideFiguresOf reply → f ≡ g
 side-figures-determined reply p q = p ∙ sym q

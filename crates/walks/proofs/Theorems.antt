@@ -9,8 +9,7 @@ use borrow.Author.Tests.{ne-eqb}
 use Rattle.refusals.specs.Checks.{NoneOf, FirstOf, refuses, answers}
 use Rattle.refusals.specs.declared.Refusal.the-variants.{WalkCutShort}
 use Rattle.refusals.specs.Numbers.{numberOfRefusal}
-use Rattle.refusals.proofs.Lists.{number-on-list}
-use Rattle.refusals.proofs.Theorems.{refusalOf, refusal-of-number, never-zero, First, first-or-none, tells-once}
+use Rattle.refusals.proofs.Theorems.{number-determines-refusal, never-zero, First, first-or-none, tells-once, zero-is-answered}
 use Rattle.cubic.specs.Cubic.{N}
 use Rattle.cubic.proofs.Theorems.{gas-root-exists}
 use Rattle.slow_engine.specs.Promise.{way}
@@ -41,7 +40,7 @@ figures-determine-walk-reply (ToRoot gas values) (ToRoot gas′ values′) same 
 figures-determine-walk-reply (ToRoot gas values) (Refused refusal values′) same = absurd (never-zero refusal (sym (ap numberIn same)))
 figures-determine-walk-reply (Refused refusal values) (ToRoot gas values′) same = absurd (never-zero refusal (ap numberIn same))
 figures-determine-walk-reply (Refused refusal values) (Refused refusal′ values′) same =
-    ap₂ Refused (sym (refusal-of-number refusal) ∙ ap refusalOf (ap numberIn same) ∙ refusal-of-number refusal′) (ap valuesIn same)
+    ap₂ Refused (number-determines-refusal refusal refusal′ (ap numberIn same)) (ap valuesIn same)
 
 pub walk-figures-determined : (reply : WalkReply) {f g : WalkFigures} → f ≡ figuresOf reply → g ≡ figuresOf reply → f ≡ g
 walk-figures-determined reply p q = p ∙ sym q
@@ -99,11 +98,7 @@ module _ (number millikelvin pascals : ℕ) where
           rw is-0 at (limit-where-it-is-too-low (exists .1 .1) (omega (arith, exists .1 .1 .is-way)))
 
     answered : figures .number ≡ 0 → Answered number millikelvin pascals figures
-    answered is-0 = by-reply replies
-      where
-        by-reply : Replies number millikelvin pascals limit figures → Answered number millikelvin pascals figures
-        by-reply (refuses refusal first told) = absurd (number-on-list 0 (allChecks number millikelvin pascals limit) refusal refl first (sym (ap numberIn told) ∙ is-0))
-        by-reply (answers none given) = given
+    answered is-0 = zero-is-answered numberIn (allChecks number millikelvin pascals limit) refl (λ refusal told. ap numberIn told) is-0 replies .1
 
     -- the count of an answered walk is the way from N + b down to its root
     pub count-is-the-way : (reached : Reached) → Reaches number millikelvin pascals reached → figures .number ≡ 0 → figures .values ≡ N + reached .reduced .b - figures .«gas_root» + 1

@@ -12,7 +12,10 @@ mod walks;
 
 use crate::comparison::{Comparison, Outcome};
 use crate::workers::Unit;
+use second::random::Random;
 use second::state::FLUIDS as ALL;
+use split::below_critical;
+use states::any_state;
 
 /// Document 01's worked states and C-20's, the refused ones among them.
 const WORKED: [[u64; 3]; 15] = [
@@ -56,6 +59,29 @@ pub fn units() -> Vec<Unit> {
     units.extend(states::units());
     units.extend(split::units());
     units
+}
+
+/// What is asked of a state, with what is drawn for it.
+type Asks = fn(&mut Comparison, [u64; 3], &mut Random) -> Outcome;
+
+/// So many states from anywhere in the ranges and so many below the critical temperatures, of each fluid in turn.
+fn spread_over(
+    comparison: &mut Comparison,
+    [anywhere, below]: [usize; 2],
+    seed: u64,
+    ask: Asks,
+) -> Outcome {
+    let mut random = Random(seed);
+    let fluids = || FLUIDS.into_iter().cycle();
+    for (fluid, coldest, _) in fluids().take(anywhere) {
+        let state = any_state(fluid, coldest, &mut random);
+        ask(comparison, state, &mut random)?;
+    }
+    for fluid in fluids().take(below) {
+        let state = below_critical(fluid, &mut random);
+        ask(comparison, state, &mut random)?;
+    }
+    Ok(())
 }
 
 fn unit(

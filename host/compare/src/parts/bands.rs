@@ -3,8 +3,8 @@
 //! some states with every scaling.
 
 use super::split::{around, below_critical, changes, last_before_change};
-use super::states::{any_state, FLUID_NUMBERS, PRESSURES, TEMPERATURES};
-use super::{unit, FLUIDS, WORKED};
+use super::states::{all_ends, any_state, FLUID_NUMBERS};
+use super::{spread_over, unit, FLUIDS, WORKED};
 use crate::call::Call;
 use crate::comparison::{Comparison, Outcome};
 use crate::workers::Unit;
@@ -15,9 +15,8 @@ use second::state::LOWEST_PRESSURE;
 
 const PART: &str = "bands";
 
-/// Of each unit of the spread.
-const STATES: usize = 600;
-const SPLIT_STATES: usize = 300;
+/// Of each unit of the spread: from anywhere, and where states are SPLIT.
+const STATES: [usize; 2] = [600, 300];
 
 /// Of each unit of falls, for either least fall.
 const FALLS: usize = 15;
@@ -65,7 +64,9 @@ pub fn units() -> Vec<Unit> {
         }));
     }
     for seed in 0..UNITS {
-        units.push(unit(PART, move |comparison| spread(comparison, seed)));
+        units.push(unit(PART, move |comparison| {
+            spread_over(comparison, STATES, seed, some_bands)
+        }));
         units.push(unit(PART, move |comparison| falls(comparison, seed)));
         units.push(unit(PART, move |comparison| {
             every_scaling_of_some(comparison, seed)
@@ -80,19 +81,17 @@ pub fn units() -> Vec<Unit> {
 /// All combinations of the ends, with a itself; with each end a little out of range; out of order; with neither in
 /// range; and with the widest band first and last, so that nothing kept from the state before passes.
 fn ends(comparison: &mut Comparison, fluid: u64) -> Outcome {
-    for millikelvin in TEMPERATURES {
-        for pascals in PRESSURES {
-            let bands = [
-                [LEAST, MOST],
-                [NONE, NONE],
-                [LEAST - 1, MOST],
-                [LEAST, MOST + 1],
-                [NONE + 1, NONE],
-                [0, u64::MAX],
-                [LEAST, MOST],
-            ];
-            ask(comparison, [fluid, millikelvin, pascals], bands)?;
-        }
+    let bands = [
+        [LEAST, MOST],
+        [NONE, NONE],
+        [LEAST - 1, MOST],
+        [LEAST, MOST + 1],
+        [NONE + 1, NONE],
+        [0, u64::MAX],
+        [LEAST, MOST],
+    ];
+    for state in all_ends(fluid) {
+        ask(comparison, state, bands)?;
     }
     Ok(())
 }
@@ -115,20 +114,6 @@ fn far_scalings() -> impl Iterator<Item = u64> {
     let powers = (11..64).map(|power| 1_u64 << power);
     let beside_powers = powers.flat_map(|power| [0, LEAST, NONE, MOST].map(|near| power + near));
     beside_powers.chain([1, LEAST, NONE, MOST].map(u64::wrapping_neg))
-}
-
-/// Over all temperatures and all magnitudes of pressure, and where states are SPLIT.
-fn spread(comparison: &mut Comparison, seed: u64) -> Outcome {
-    let mut random = Random(seed);
-    for (fluid, coldest, _) in FLUIDS.into_iter().cycle().take(STATES) {
-        let state = any_state(fluid, coldest, &mut random);
-        some_bands(comparison, state, &mut random)?;
-    }
-    for fluid in FLUIDS.into_iter().cycle().take(SPLIT_STATES) {
-        let state = below_critical(fluid, &mut random);
-        some_bands(comparison, state, &mut random)?;
-    }
-    Ok(())
 }
 
 /// Two scalings in range, in each order and each alone; with a band that ends at a itself; and each beside one

@@ -1,7 +1,7 @@
 //! Sides of any number, together with all else that can be refused: a state, a slot, a book's length.
 
 use super::books::{any_book, BEHIND, LENGTHS, SLOTS};
-use super::states::{FLUID_NUMBERS, PRESSURES, TEMPERATURES};
+use super::states::{all_ends, FLUID_NUMBERS};
 use super::{unit, NO_SIDES, WORKED};
 use crate::call::Call;
 use crate::comparison::{Comparison, Outcome};
@@ -39,15 +39,12 @@ pub fn units() -> Vec<Unit> {
 /// last slot, past it, and with one that is a byte too short.
 fn ends(comparison: &mut Comparison, fluid: u64) -> Outcome {
     let mut random = Random(fluid);
-    for millikelvin in TEMPERATURES {
-        for pascals in PRESSURES {
-            let state = [fluid, millikelvin, pascals];
-            for side in NO_SIDES {
-                comparison.ask(Call::side(state, side))?;
-                let book = any_book(BOOK_BYTES, &mut random);
-                for (slot, length) in [(63, BOOK_BYTES), (64, BOOK_BYTES), (0, BOOK_BYTES - 1)] {
-                    comparison.ask(Call::side_with_book(state, side, slot, &book, length))?;
-                }
+    for state in all_ends(fluid) {
+        for side in NO_SIDES {
+            comparison.ask(Call::side(state, side))?;
+            let book = any_book(BOOK_BYTES, &mut random);
+            for (slot, length) in [(63, BOOK_BYTES), (64, BOOK_BYTES), (0, BOOK_BYTES - 1)] {
+                comparison.ask(Call::side_with_book(state, side, slot, &book, length))?;
             }
         }
     }

@@ -2,7 +2,7 @@
 //! point.
 
 use super::states::every_form;
-use super::{unit, FLUIDS};
+use super::{spread_over, unit, FLUIDS};
 use crate::comparison::{Comparison, Outcome};
 use crate::workers::Unit;
 use second::cubic::N;
@@ -26,20 +26,13 @@ const HIGHEST_SPLIT: u64 = 5_100_000;
 pub fn units() -> Vec<Unit> {
     let mut units = Vec::new();
     for seed in 0..UNITS {
-        units.push(unit(PART, move |comparison| spread(comparison, seed)));
+        units.push(unit(PART, move |comparison| {
+            spread_over(comparison, [0, STATES], seed, every_form)
+        }));
         units.push(unit(PART, move |comparison| edges(comparison, seed)));
     }
     units.push(unit(PART, tip));
     units
-}
-
-fn spread(comparison: &mut Comparison, seed: u64) -> Outcome {
-    let mut random = Random(seed);
-    for fluid in FLUIDS.into_iter().cycle().take(STATES) {
-        let state = below_critical(fluid, &mut random);
-        every_form(comparison, state, &mut random)?;
-    }
-    Ok(())
 }
 
 /// Temperatures below the critical one, nearer to it more often, and pressures of all magnitudes.

@@ -2,7 +2,7 @@
 //! of a range, and a spread over all temperatures and all magnitudes of pressure.
 
 use super::books::{any_book, full_book};
-use super::{unit, FLUIDS, WORKED};
+use super::{spread_over, unit, WORKED};
 use crate::call::Call;
 use crate::comparison::{Comparison, Outcome};
 use crate::workers::Unit;
@@ -34,7 +34,7 @@ pub const FLUID_NUMBERS: [u64; 12] = [
 ];
 
 /// The ends with their neighbours, and what is in range for whoever keeps 32 bits.
-pub const TEMPERATURES: [u64; 25] = [
+const TEMPERATURES: [u64; 25] = [
     0,
     1,
     13_998,
@@ -62,7 +62,7 @@ pub const TEMPERATURES: [u64; 25] = [
     u64::MAX,
 ];
 
-pub const PRESSURES: [u64; 18] = [
+const PRESSURES: [u64; 18] = [
     0,
     1,
     9_998,
@@ -86,7 +86,11 @@ pub const PRESSURES: [u64; 18] = [
 pub fn units() -> Vec<Unit> {
     let mut units = vec![unit(PART, worked_points)];
     units.extend(FLUID_NUMBERS.map(|fluid| unit(PART, move |comparison| ends(comparison, fluid))));
-    units.extend((0..UNITS).map(|seed| unit(PART, move |comparison| spread(comparison, seed))));
+    units.extend((0..UNITS).map(|seed| {
+        unit(PART, move |comparison| {
+            spread_over(comparison, [STATES, 0], seed, every_form)
+        })
+    }));
     units
 }
 
@@ -118,24 +122,19 @@ fn worked_points(comparison: &mut Comparison) -> Outcome {
     Ok(())
 }
 
-/// All combinations of the ends.
 fn ends(comparison: &mut Comparison, fluid: u64) -> Outcome {
     let mut random = Random(fluid);
-    for millikelvin in TEMPERATURES {
-        for pascals in PRESSURES {
-            every_form(comparison, [fluid, millikelvin, pascals], &mut random)?;
-        }
+    for state in all_ends(fluid) {
+        every_form(comparison, state, &mut random)?;
     }
     Ok(())
 }
 
-fn spread(comparison: &mut Comparison, seed: u64) -> Outcome {
-    let mut random = Random(seed);
-    for (fluid, coldest, _) in FLUIDS.into_iter().cycle().take(STATES) {
-        let state = any_state(fluid, coldest, &mut random);
-        every_form(comparison, state, &mut random)?;
-    }
-    Ok(())
+/// All combinations of the ends of the ranges and what lies past them.
+pub fn all_ends(fluid: u64) -> impl Iterator<Item = [u64; 3]> {
+    TEMPERATURES
+        .into_iter()
+        .flat_map(move |millikelvin| PRESSURES.map(move |pascals| [fluid, millikelvin, pascals]))
 }
 
 /// Half of the pressures of all magnitudes above the lowest, half of them anywhere; temperatures

@@ -1,9 +1,9 @@
 //! Walks with limits of all kinds: at every end of a range, at the worked states, over a spread of states, where
 //! states are SPLIT, and on both sides of the edges of that region.
 
-use super::split::{around, below_critical, edges_of};
-use super::states::{any_state, FLUID_NUMBERS, PRESSURES, TEMPERATURES};
-use super::{unit, FLUIDS, WORKED};
+use super::split::{around, edges_of};
+use super::states::{all_ends, FLUID_NUMBERS};
+use super::{spread_over, unit, FLUIDS, WORKED};
 use crate::call::Call;
 use crate::comparison::{Comparison, Outcome};
 use crate::workers::Unit;
@@ -12,9 +12,8 @@ use second::walk::ENOUGH;
 
 const PART: &str = "walks";
 
-/// Of each unit.
-const STATES: usize = 900;
-const SPLIT_STATES: usize = 300;
+/// Of each unit of the spread: from anywhere, and where states are SPLIT.
+const STATES: [usize; 2] = [900, 300];
 
 const UNITS: u64 = 20;
 
@@ -34,7 +33,11 @@ pub fn units() -> Vec<Unit> {
         FLUID_NUMBERS.map(|fluid| unit(PART, move |comparison| ends(comparison, fluid)));
     let mut units = Vec::from(at_the_ends);
     units.extend(WORKED.map(|state| unit(PART, move |comparison| any_limits(comparison, state))));
-    units.extend((0..UNITS).map(|seed| unit(PART, move |comparison| spread(comparison, seed))));
+    units.extend((0..UNITS).map(|seed| {
+        unit(PART, move |comparison| {
+            spread_over(comparison, STATES, seed, beside_needed)
+        })
+    }));
     for which in 0..ISOTHERMS {
         units.push(unit(PART, move |comparison| edges(comparison, which)));
     }
@@ -44,11 +47,8 @@ pub fn units() -> Vec<Unit> {
 /// All combinations of the ends, with a limit that is enough for each walk, with the least ones, and with the
 /// largest. As the first walk over a state ends, nothing kept from another state passes.
 fn ends(comparison: &mut Comparison, fluid: u64) -> Outcome {
-    for millikelvin in TEMPERATURES {
-        for pascals in PRESSURES {
-            let limits = [ENOUGH, 0, 1, u64::MAX];
-            ask(comparison, [fluid, millikelvin, pascals], limits)?;
-        }
+    for state in all_ends(fluid) {
+        ask(comparison, state, [ENOUGH, 0, 1, u64::MAX])?;
     }
     Ok(())
 }
@@ -65,20 +65,6 @@ fn any_limits(comparison: &mut Comparison, state: [u64; 3]) -> Outcome {
     let mut random = Random(state[1] ^ state[2]);
     let any = (0..OF_ALL_MAGNITUDES).map(|_| random.number() >> (random.number() % 64));
     ask(comparison, state, any)
-}
-
-/// Over all temperatures and all magnitudes of pressure, and where states are SPLIT.
-fn spread(comparison: &mut Comparison, seed: u64) -> Outcome {
-    let mut random = Random(seed);
-    for (fluid, coldest, _) in FLUIDS.into_iter().cycle().take(STATES) {
-        let state = any_state(fluid, coldest, &mut random);
-        beside_needed(comparison, state, &mut random)?;
-    }
-    for fluid in FLUIDS.into_iter().cycle().take(SPLIT_STATES) {
-        let state = below_critical(fluid, &mut random);
-        beside_needed(comparison, state, &mut random)?;
-    }
-    Ok(())
 }
 
 /// Both sides of each edge. The longest walks that are known lie just above the upper one at the lowest
