@@ -124,6 +124,12 @@ uint64_t woolyard_band(uint64_t fluid, uint64_t millikelvin, uint64_t pascals, u
  * down, each operation rounded once. Answers 0, or 5 and leaves *heat alone: below 14, above 1000, an infinity or a NaN. */
 uint64_t woolyard_heat(double kelvin, double *heat);
 
+/* The same in whole numbers, for a machine that has no doubles: J/(kg K), at a temperature in millikelvin, any number at all. At a whole
+ * kelvin it is the polynomial of Table 4 with its decimals as they are printed, worked out exactly, times 1000 and rounded down; between two
+ * of them it is the straight line from the one whole number to the other, rounded down, and so it never leaves what lies between these.
+ * Answers 0, or 21 or 22 with *heat 0: below 14,000 or above 1,000,000 mK, as for parahydrogen. */
+uint64_t woolyard_heat_table(uint64_t millikelvin, uint64_t *heat);
+
 /* The excess viscosity factor of TM-564's equation (2.12-2), in millionths, at a reduced density in thousandths, any number at all: what
  * that equation has in braces, (0.093324 x^4 - 0.40758 x^3 + 0.58533 x^2 + 0.23364 x + 1.0230)^4 - 1. The quartic is worked out exactly and
  * rounded down to millionths; so is each of the two squares that make its fourth power. The equation's 1e-7 and its xi stay with the caller:

@@ -12,7 +12,7 @@ long write(int file, const void *bytes, unsigned long length);
  * of the function's. */
 enum { FUNCTION, FIRST, SECOND, THIRD, FOURTH, FIFTH, LENGTH, LENT_BYTES, PLACES, LENT = PLACES + 5 };
 
-enum { STATE, STATE_WITH_BOOK, SIDE, SIDE_WITH_BOOK, WALK, BAND, HEAT, VISCOSITY, SHEET, SHEET_LINE };
+enum { STATE, STATE_WITH_BOOK, SIDE, SIDE_WITH_BOOK, WALK, BAND, HEAT, HEAT_TABLE, VISCOSITY, SHEET, SHEET_LINE };
 
 #define WORDS 131072
 
@@ -54,6 +54,8 @@ static uint64_t make(size_t word)
         return woolyard_band(call[FIRST], call[SECOND], call[THIRD], call[FOURTH], call[FIFTH], call + PLACES);
     case HEAT:
         return heat(call[FIRST], call + PLACES);
+    case HEAT_TABLE:
+        return woolyard_heat_table(call[FIRST], call + PLACES);
     case VISCOSITY:
         return woolyard_viscosity(call[FIRST], call + PLACES);
     case SHEET:

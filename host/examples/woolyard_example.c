@@ -1,5 +1,5 @@
-/* The header in use: a state, one side of it, the state with a book, another fluid, a walk, a band, refusals, the heat capacity, the
- * excess viscosity factor, a sheet and its lines, and a faulty sheet. */
+/* The header in use: a state, one side of it, the state with a book, another fluid, a walk, a band, refusals, the heat capacity, the heat
+ * table, the excess viscosity factor, a sheet and its lines, and a faulty sheet. */
 #include "woolyard.h"
 #include <inttypes.h>
 #include <stdio.h>
@@ -61,6 +61,11 @@ int main(void)
     double heat = 0;
     if (woolyard_heat(300, &heat) == WOOLYARD_ANSWERED)
         printf("hydrogen at 300 K: %.6f kJ/(kg K)\n", heat);
+    uint64_t whole_heat;
+    if (woolyard_heat_table(300000, &whole_heat) == WOOLYARD_ANSWERED)
+        printf("hydrogen at 300000 mK, from the table: %" PRIu64 " J/(kg K)\n", whole_heat);
+    if (woolyard_heat_table(41500, &whole_heat) == WOOLYARD_ANSWERED)
+        printf("hydrogen at 41500 mK, between two entries: %" PRIu64 " J/(kg K)\n", whole_heat);
 
     uint64_t factor;
     if (woolyard_viscosity(1500, &factor) == WOOLYARD_ANSWERED)

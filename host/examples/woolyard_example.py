@@ -19,10 +19,11 @@ woolyard.woolyard_side.argtypes = [c_uint64, c_uint64, c_uint64, c_uint64, SideF
 woolyard.woolyard_walk.argtypes = [c_uint64, c_uint64, c_uint64, c_uint64, Walked]
 woolyard.woolyard_band.argtypes = [c_uint64, c_uint64, c_uint64, c_uint64, c_uint64, Roots]
 woolyard.woolyard_heat.argtypes = [c_double, ctypes.POINTER(c_double)]
+woolyard.woolyard_heat_table.argtypes = [c_uint64, ctypes.POINTER(c_uint64)]
 woolyard.woolyard_viscosity.argtypes = [c_uint64, ctypes.POINTER(c_uint64)]
 woolyard.woolyard_sheet.argtypes = [ctypes.c_char_p, c_size_t, Three]
 woolyard.woolyard_sheet_line.argtypes = [ctypes.c_char_p, c_size_t, c_uint64, Three]
-for name in ("state", "state_with_book", "side", "walk", "band", "heat", "viscosity", "sheet", "sheet_line"):
+for name in ("state", "state_with_book", "side", "walk", "band", "heat", "heat_table", "viscosity", "sheet", "sheet_line"):
     getattr(woolyard, f"woolyard_{name}").restype = c_uint64
 
 
@@ -82,6 +83,11 @@ print(f"oxygen at 55999 mK: reply {number}")
 heat = c_double()
 if woolyard.woolyard_heat(300, byref(heat)) == ANSWERED:
     print(f"hydrogen at 300 K: {heat.value:.6f} kJ/(kg K)")
+whole_heat = c_uint64()
+if woolyard.woolyard_heat_table(300000, byref(whole_heat)) == ANSWERED:
+    print(f"hydrogen at 300000 mK, from the table: {whole_heat.value} J/(kg K)")
+if woolyard.woolyard_heat_table(41500, byref(whole_heat)) == ANSWERED:
+    print(f"hydrogen at 41500 mK, between two entries: {whole_heat.value} J/(kg K)")
 
 factor = c_uint64()
 if woolyard.woolyard_viscosity(1500, byref(factor)) == ANSWERED:

@@ -6,7 +6,7 @@ use Prim.Native.Nat.{ℕ, _≤_, _<_}
 use native.Mathlib.Omega.{arith}
 use native.Mathlib.Decide.{decLe, decLt}
 use Rattle.refusals.specs.declared.Refusal.the-variants.{NoSuchFluid, TemperatureTooLow, TemperatureTooHigh, PressureTooLow, PressureTooHigh}
-use Rattle.refusals.proofs.Lists.{none-both, first-front, first-behind}
+use Rattle.refusals.proofs.Lists.{none-both, none-front, first-front, first-behind}
 use Rattle.refusals.proofs.Theorems.{EachDecided}
 use Rattle.refusals.specs.Checks.{NoneOf, FirstOf}
 use Rattle.fluid.specs.declared.choice.Fluid.{Fluid}
@@ -25,24 +25,41 @@ is-fluid fluid is-number = (λ none. none fluid is-number, tt)
 pub unknown-fluid : (number millikelvin pascals : ℕ) {refusal : ℕ} → refusal ≡ 1 → ((fluid : Fluid) → number ≡ numberOf fluid → ⊥) → FirstOf (stateChecks number millikelvin pascals) refusal
 unknown-fluid number millikelvin pascals is-1 none = inl (none, is-1)
 
-module _ {number : ℕ} (fluid : Fluid) (is-number : number ≡ numberOf fluid) (millikelvin pascals : ℕ) where
+-- the temperature alone
+module _ {number : ℕ} (fluid : Fluid) (is-number : number ≡ numberOf fluid) {millikelvin : ℕ} where
   not-cold : coldest fluid ≤ millikelvin → OfFluid number (λ other. millikelvin < coldest other) → ⊥
   not-cold from out = omega (arith, of-fluid fluid is-number out)
 
+  pub cold-is-21 : {refusal : ℕ} → refusal ≡ 21 → millikelvin < coldest fluid → FirstOf (temperatureChecks number millikelvin) refusal
+  cold-is-21 is-21 out = inl (record { fluid = fluid; is-number = is-number; holds = out }, is-21)
+
+  pub hot-is-22 : {refusal : ℕ} → refusal ≡ 22 → hottest < millikelvin → FirstOf (temperatureChecks number millikelvin) refusal
+  hot-is-22 is-22 out = inr (not-cold (omega (arith, fits fluid .some-range)), inl (out, is-22))
+
+  pub temperature-passes : coldest fluid ≤ millikelvin → millikelvin ≤ hottest → NoneOf (temperatureChecks number millikelvin)
+  temperature-passes from to = (not-cold from, (λ out. omega arith, tt))
+
+  pub temperature-accepted : NoneOf (temperatureChecks number millikelvin) → (coldest fluid ≤ millikelvin) × (millikelvin ≤ hottest)
+  temperature-accepted none =
+      let cold : millikelvin < coldest fluid → ⊥ = λ out. none .0 (record { fluid = fluid; is-number = is-number; holds = out }) in
+      let hot : hottest < millikelvin → ⊥ = none .1 .0 in
+      (omega arith, omega arith)
+
+module _ {number : ℕ} (fluid : Fluid) (is-number : number ≡ numberOf fluid) (millikelvin pascals : ℕ) where
   by-temperature : {refusal : ℕ} → FirstOf (temperatureChecks number millikelvin) refusal → FirstOf (stateChecks number millikelvin pascals) refusal
   by-temperature {refusal} first =
       first-behind (fluidChecks number) (rangeChecks number millikelvin pascals) refusal (is-fluid fluid is-number)
       (first-front (temperatureChecks number millikelvin) (pressureChecks pascals) refusal first)
 
   pub too-cold : {refusal : ℕ} → refusal ≡ 21 → millikelvin < coldest fluid → FirstOf (stateChecks number millikelvin pascals) refusal
-  too-cold is-21 out = by-temperature (inl (record { fluid = fluid; is-number = is-number; holds = out }, is-21))
+  too-cold is-21 out = by-temperature (cold-is-21 fluid is-number is-21 out)
 
   pub too-hot : {refusal : ℕ} → refusal ≡ 22 → hottest < millikelvin → FirstOf (stateChecks number millikelvin pascals) refusal
-  too-hot is-22 out = by-temperature (inr (not-cold (omega (arith, fits fluid .some-range)), inl (out, is-22)))
+  too-hot is-22 out = by-temperature (hot-is-22 fluid is-number is-22 out)
 
   module _ (from : coldest fluid ≤ millikelvin) (to : millikelvin ≤ hottest) where
     good-temperature : NoneOf (fluidChecks number ++ temperatureChecks number millikelvin)
-    good-temperature = (is-fluid fluid is-number .0, (not-cold from, (λ out. omega arith, tt)))
+    good-temperature = none-both (fluidChecks number) (temperatureChecks number millikelvin) (is-fluid fluid is-number) (temperature-passes fluid is-number from to)
 
     by-pressure : {refusal : ℕ} → FirstOf (pressureChecks pascals) refusal → FirstOf (stateChecks number millikelvin pascals) refusal
     by-pressure {refusal} = first-behind (fluidChecks number ++ temperatureChecks number millikelvin) (pressureChecks pascals) refusal good-temperature
@@ -61,11 +78,10 @@ module _ {number : ℕ} (fluid : Fluid) (is-number : number ≡ numberOf fluid) 
 
   pub accepts : NoneOf (stateChecks number millikelvin pascals) → Accepted fluid millikelvin pascals
   accepts none =
-      let cold : millikelvin < coldest fluid → ⊥ = λ out. none .1 .0 (record { fluid = fluid; is-number = is-number; holds = out }) in
-      let hot : hottest < millikelvin → ⊥ = none .1 .1 .0 in
+      let temperature = temperature-accepted fluid is-number (none-front (temperatureChecks number millikelvin) (pressureChecks pascals) (none .1)) in
       let low : pascals < lowest → ⊥ = none .1 .1 .1 .0 in
       let high : highest < pascals → ⊥ = none .1 .1 .1 .1 .0 in
-      record { from-coldest = omega arith; to-hottest = omega arith; from-lowest = omega arith; to-highest = omega arith }
+      record { from-coldest = temperature .0; to-hottest = temperature .1; from-lowest = omega arith; to-highest = omega arith }
 
 -- each check can be decided
 pub fluid-or-none : (number : ℕ) → ((fluid : Fluid) × (number ≡ numberOf fluid)) ⊎ ((fluid : Fluid) → number ≡ numberOf fluid → ⊥)

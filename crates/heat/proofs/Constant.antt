@@ -11,7 +11,8 @@ use lib.Ieee.Fits.{down-pos}
 use lib.Ieee.Positive.{positive}
 use lib.Ieee.Scale.{round-same}
 use Rattle.heat.specs.declared.table.Coefficients.{Coefficients}
-use Rattle.heat.specs.Table.{Decimal, plus, up-to-40, printed, nearestDouble, coefficientsOf}
+use Rattle.heat.specs.Printed.{Decimal, plus, up-to-40, printed}
+use Rattle.heat.specs.Table.{nearestDouble, coefficientsOf}
 use Rattle.heat.specs.Evaluation.{step, evaluated}
 
 abbrev nought : Float

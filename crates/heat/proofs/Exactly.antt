@@ -2,9 +2,11 @@
 -- Assumes nothing.
 use mathlib.Core.Path.{_≡_, refl, ap, _∙_}
 use lib.Ieee.{Float}
+use lib.Ieee.Positive.{num, den}
 use Rattle.heat.specs.declared.replies.HeatCapacity.{HeatCapacity}
 use Rattle.heat.specs.declared.replies.HeatCapacity.the-variants.{KilojoulesPerKilogramKelvin, OutOfRange}
-use Rattle.heat.specs.Table.{Range, Holds, coefficientsOf}
+use Rattle.heat.specs.Printed.{Range}
+use Rattle.heat.specs.Table.{Holds, coefficientsOf}
 use Rattle.heat.specs.Evaluation.{evaluated}
 use Rattle.heat.specs.Replies.{comesBack}
 use Rattle.heat.specs.Promise.{InRange, Answers}
@@ -14,7 +16,7 @@ module _ (kelvin : Float) (inside : InRange kelvin) (range : Range) (holds : Hol
   pub in-range-is-answered : (reply : HeatCapacity) → Answers kelvin (comesBack reply) → reply ≡ KilojoulesPerKilogramKelvin (evaluated (coefficientsOf range) kelvin)
   in-range-is-answered (KilojoulesPerKilogramKelvin heat) answers =
       ap KilojoulesPerKilogramKelvin
-      (answers .is-evaluated ∙ ap (λ (other : Range). evaluated (coefficientsOf other) kelvin) (one-range (answers .range) range kelvin (answers .holds) holds))
+      (answers .is-evaluated ∙ ap (λ (other : Range). evaluated (coefficientsOf other) kelvin) (one-range (num kelvin) (den kelvin) (answers .range) range (answers .holds) holds))
   in-range-is-answered OutOfRange answers = absurd (answers .out-of-range inside)
 
 pub out-of-range-is-refused : (kelvin : Float) → (InRange kelvin → ⊥) → (reply : HeatCapacity) → Answers kelvin (comesBack reply) → reply ≡ OutOfRange

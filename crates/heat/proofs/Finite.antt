@@ -11,7 +11,8 @@ use lib.Ieee.Fits.{and-l, and-r}
 use lib.Ieee.Positive.{num, den, positive-finite}
 use lib.Ieee.Scale.{finite}
 use Rattle.heat.specs.declared.table.Coefficients.{Coefficients}
-use Rattle.heat.specs.Table.{Range, up-to-40, up-to-150, up-to-500, above-500, printed, nearestDouble, coefficientsOf}
+use Rattle.heat.specs.Printed.{Range, up-to-40, up-to-150, up-to-500, above-500, printed}
+use Rattle.heat.specs.Table.{nearestDouble, coefficientsOf}
 use Rattle.heat.specs.Evaluation.{step, evaluated}
 use Rattle.heat.specs.Promise.{InRange, Answered}
 use Rattle.heat.proofs.Sizes.{Bounded, mul-bounded, add-bounded}

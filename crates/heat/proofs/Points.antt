@@ -7,7 +7,8 @@ use lib.Dec.{T, T-not, leb, ltb, leb→le, ltb→lt}
 use lib.Ieee.{Float, binary64, ofBits}
 use lib.Ieee.Fits.{and-l, and-r}
 use lib.Ieee.Positive.{num, den}
-use Rattle.heat.specs.Table.{Range, up-to-40, up-to-150, up-to-500, above-500, Holds}
+use Rattle.heat.specs.Printed.{Range, up-to-40, up-to-150, up-to-500, above-500}
+use Rattle.heat.specs.Table.{Holds}
 use Rattle.heat.specs.Points.{Point, answered, refused, Met, Every, none, next, points}
 use Rattle.heat.proofs.Decided.{inside, told-inside, passes}
 use Rattle.heat.proofs.Exactly.{in-range-is-answered, out-of-range-is-refused}

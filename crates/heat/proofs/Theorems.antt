@@ -11,7 +11,8 @@ use lib.Ieee.Positive.{num, den}
 use lib.Ieee.Scale.{finite}
 use Rattle.heat.specs.declared.replies.HeatCapacity.{HeatCapacity}
 use Rattle.heat.specs.declared.replies.HeatCapacity.the-variants.{KilojoulesPerKilogramKelvin, OutOfRange}
-use Rattle.heat.specs.Table.{plus, up-to-40, Holds, nearestDouble}
+use Rattle.heat.specs.Printed.{plus, up-to-40}
+use Rattle.heat.specs.Table.{Holds, nearestDouble}
 use Rattle.heat.specs.Replies.{comesBack, numberOf}
 use Rattle.heat.specs.Promise.{InRange, Answered, Answers}
 use Rattle.heat.proofs.Ranges.{rangeOf, found-holds}
@@ -37,7 +38,7 @@ every-double-has-a-reply kelvin =
       | inl inside ↦
           record {
             reply = KilojoulesPerKilogramKelvin _;
-            answers = record { in-range = inside; range = rangeOf (num kelvin) (den kelvin); holds = found-holds kelvin; is-evaluated = refl };
+            answers = record { in-range = inside; range = rangeOf (num kelvin) (den kelvin); holds = found-holds (num kelvin) (den kelvin); is-evaluated = refl };
           }
       | inr outside ↦ record { reply = OutOfRange; answers = record { is-5 = refl; out-of-range = outside } }
     ]

@@ -2,7 +2,8 @@
 use mathlib.Core.Path.{_≡_}
 use lib.Ieee.{Float}
 use Rattle.heat.specs.declared.table.Coefficients.{Coefficients}
-use Rattle.heat.specs.Table.{Range, Holds, coefficientsOf}
+use Rattle.heat.specs.Printed.{Range}
+use Rattle.heat.specs.Table.{Holds, coefficientsOf}
 
 pub record RowFor (kelvin : Float) (coefficients : Coefficients) : Type 0 where
   pub range : Range

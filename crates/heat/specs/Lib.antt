@@ -1,4 +1,5 @@
--- What a reader must believe of hydrogen's ideal heat capacity: the printed table, the order of operations, what comes back, and when.
+-- What a reader must believe of hydrogen's ideal heat capacity: the printed table, its doubles, the order of operations, what comes back, and when.
+pub mod Printed
 pub mod Table
 pub mod Evaluation
 pub mod Replies

@@ -6,7 +6,8 @@ use Prim.Native.Nat.{ℕ}
 use lib.Ieee.{binary64, ofBits}
 use Rattle.heat.specs.declared.replies.HeatCapacity.{HeatCapacity}
 use Rattle.heat.specs.declared.replies.HeatCapacity.the-variants.{KilojoulesPerKilogramKelvin, OutOfRange}
-use Rattle.heat.specs.Table.{Range, up-to-40, up-to-150, up-to-500, above-500, coefficientsOf}
+use Rattle.heat.specs.Printed.{Range, up-to-40, up-to-150, up-to-500, above-500}
+use Rattle.heat.specs.Table.{coefficientsOf}
 use Rattle.heat.specs.Evaluation.{evaluated}
 use Rattle.heat.specs.Replies.{comesBack}
 use Rattle.heat.specs.Promise.{Answers}

@@ -4,7 +4,8 @@ use Prim.Native.Nat.{ℕ, _*_, _≤_}
 use lib.Dec.{T}
 use lib.Ieee.{Float}
 use lib.Ieee.Positive.{positive, num, den}
-use Rattle.heat.specs.Table.{Range, Holds, coefficientsOf}
+use Rattle.heat.specs.Printed.{Range}
+use Rattle.heat.specs.Table.{Holds, coefficientsOf}
 use Rattle.heat.specs.Evaluation.{evaluated}
 use Rattle.heat.specs.Replies.{Reply, double, refusal}
 

@@ -20,6 +20,8 @@ use Rattle.bands.specs.declared.replies.BandFigures.{BandFigures}
 use Rattle.bands.proofs.Theorems as bands
 use Rattle.heat.specs.Replies.{numberOf}
 use Rattle.heat.proofs.Theorems as heat
+use Rattle.heat_table.specs.declared.replies.TableFigures.{TableFigures}
+use Rattle.heat_table.proofs.Theorems as heat-table
 use Rattle.viscosity.specs.declared.replies.ExcessFigures.{ExcessFigures}
 use Rattle.viscosity.proofs.Theorems as viscosity
 use Rattle.readings.specs.declared.Reading.{Reading}
@@ -32,6 +34,7 @@ use Rattle.woolyard.specs.Sides.{twoOf, SideLaid, SideAnswers, SideBookA
 use Rattle.woolyard.specs.Walks.{walkedOf, WalkAnswers}
 use Rattle.woolyard.specs.Bands.{rootsOf, BandAnswers}
 use Rattle.woolyard.specs.Heats.{bitsAfter, HeatAnswers}
+use Rattle.woolyard.specs.HeatTables.{HeatTableAnswers}
 use Rattle.woolyard.specs.Viscosities.{ViscosityAnswers}
 use Rattle.woolyard.specs.Sheets.{readingOf, SheetAnswers, stateOf, LineAnswers}
 
@@ -127,6 +130,14 @@ pub heat-determined : (kelvin : Float) (before number number′ after after′ :
 heat-determined kelvin before number number′ after after′ p q =
     told-alike numberOf (bitsAfter before)
     (heat.reply-determined kelvin (p .reply) (q .reply) (p .answers) (q .answers)) (p .is-number) (q .is-number) (p .leaves) (q .leaves)
+
+pub heat-table-determined : (millikelvin number number′ heat heat′ : ℕ) → HeatTableAnswers millikelvin number heat → HeatTableAnswers millikelvin number′ heat′ → (number ≡ number′) × (heat ≡ heat′)
+heat-table-determined millikelvin number number′ heat heat′ p q =
+    let same = heat-table.told-once millikelvin _ _ p q in
+    (ap (λ (f : TableFigures). f .number) same, ap (λ (f : TableFigures). f .heat) same)
+
+pub refused-heat-table-is-zero : {millikelvin number heat : ℕ} → HeatTableAnswers millikelvin number heat → (number ≡ 0 → ⊥) → heat ≡ 0
+refused-heat-table-is-zero p refused = heat-table.refused-carries-zero p refused
 
 -- ---- the viscosity
 pub viscosity-determined : (thousandths number number′ factor factor′ : ℕ) → ViscosityAnswers thousandths number factor → ViscosityAnswers thousandths number′ factor′ → (number ≡ number′) × (factor ≡ factor′)

@@ -4,5 +4,6 @@ pub mod Sides
 pub mod Walks
 pub mod Bands
 pub mod Heats
+pub mod HeatTables
 pub mod Viscosities
 pub mod Sheets

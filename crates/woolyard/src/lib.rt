@@ -8,6 +8,7 @@ ghost use Rattle.woolyard.specs.Sides.{SideAnswers, SideBookAnswers};
 ghost use Rattle.woolyard.specs.Walks.{WalkAnswers};
 ghost use Rattle.woolyard.specs.Bands.{BandAnswers};
 ghost use Rattle.woolyard.specs.Heats.{HeatAnswers};
+ghost use Rattle.woolyard.specs.HeatTables.{HeatTableAnswers};
 ghost use Rattle.woolyard.specs.Viscosities.{ViscosityAnswers};
 ghost use Rattle.woolyard.specs.Sheets.{SheetAnswers, LineAnswers};
 use crate::layout::faulty_line_length;
@@ -127,6 +128,17 @@ pub extern "C" fn woolyard_heat(kelvin: f64, heat: &mut u64) -> u64
         }
         HeatCapacity::OutOfRange => number,
     }
+}
+
+// The same in whole numbers, for a machine that has no doubles.
+#[no_mangle]
+pub extern "C" fn woolyard_heat_table(millikelvin: u64, heat: &mut u64) -> u64
+    ensures { λ r. ⌜ HeatTableAnswers millikelvin r (now (heat .exit)) ⌝ }
+{
+    let reply = heat_table::ideal_heat_capacity(millikelvin);
+    let told = reply.figures();
+    *heat = told.heat;
+    told.number
 }
 
 // The excess viscosity factor of dense gas.

@@ -12,13 +12,14 @@ pub enum Function {
     Walk = 4,
     Band = 5,
     Heat = 6,
-    Viscosity = 7,
-    Sheet = 8,
-    SheetLine = 9,
+    HeatTable = 7,
+    Viscosity = 8,
+    Sheet = 9,
+    SheetLine = 10,
 }
 
 /// The names in the header, in the order of the numbers.
-pub const NAMES: [&str; 10] = [
+pub const NAMES: [&str; 11] = [
     "woolyard_state",
     "woolyard_state_with_book",
     "woolyard_side",
@@ -26,6 +27,7 @@ pub const NAMES: [&str; 10] = [
     "woolyard_walk",
     "woolyard_band",
     "woolyard_heat",
+    "woolyard_heat_table",
     "woolyard_viscosity",
     "woolyard_sheet",
     "woolyard_sheet_line",
@@ -117,6 +119,10 @@ impl Call {
         Call::new(Function::Heat, [kelvin_pattern])
     }
 
+    pub fn heat_table(millikelvin: u64) -> Call {
+        Call::new(Function::HeatTable, [millikelvin])
+    }
+
     pub fn viscosity(thousandths: u64) -> Call {
         Call::new(Function::Viscosity, [thousandths])
     }
@@ -159,6 +165,7 @@ impl fmt::Display for Call {
             | Function::Walk
             | Function::Band
             | Function::Heat
+            | Function::HeatTable
             | Function::Viscosity => Ok(()),
             Function::StateWithBook | Function::SideWithBook => {
                 write!(text, ", book {:?}", self.book)
@@ -186,6 +193,7 @@ impl Call {
             Function::Walk => format!("{state}, limit {fourth}"),
             Function::Band => format!("{state}, lower {fourth}, upper {fifth}"),
             Function::Heat => format!("kelvin {first:#018x} or {}", f64::from_bits(first)),
+            Function::HeatTable => format!("millikelvin {first}"),
             Function::Viscosity => format!("thousandths {first}"),
             Function::Sheet => format!("length {length}"),
             Function::SheetLine => format!("length {length}, k {first}"),

@@ -1,17 +1,15 @@
 //! Asks the archive and the second implementation the same, and stops at the first difference.
 
 use crate::boundary::Boundary;
-use crate::call::{Call, NAMES};
+use crate::call::Call;
 use crate::second_side::Second;
+use crate::tally::Tally;
 use second::heat::NOT_NUMBERS;
 use second::random::Random;
 use std::io;
 
 /// The first difference in one line, or why there was no answer.
 pub type Outcome = Result<(), String>;
-
-/// How many calls were made of each function.
-pub type Counts = [u64; NAMES.len()];
 
 /// How much waits before it is asked at once. A served process reads a batch into 1 MiB; each call adds
 /// less than 120 bytes to what it lends, and the last one lends less than a quarter of that.
@@ -24,7 +22,7 @@ pub struct Comparison {
     junk: Random,
     waiting: Vec<Call>,
     lent_bytes: usize,
-    pub counts: Counts,
+    pub tally: Tally,
 }
 
 impl Comparison {
@@ -35,27 +33,43 @@ impl Comparison {
             junk: Random(0),
             waiting: Vec::new(),
             lent_bytes: 0,
-            counts: Counts::default(),
+            tally: Tally::default(),
         }
     }
 
     /// From here on the junk is the same in every run.
     pub fn begin(&mut self, seed: u64) {
         self.junk = Random(seed);
-        self.counts = Counts::default();
+        self.tally = Tally::default();
     }
 
-    /// Has this call compared, at once or by the next `settle`. The places are filled with junk, so that
-    /// one which should be written and is not shows, and one that should not be and is.
-    pub fn ask(&mut self, mut call: Call) -> Outcome {
-        call.places = [(); 5].map(|()| self.junk());
-        self.counts[call.function as usize] += 1;
-        self.lent_bytes += call.book.len() + call.sheet.len();
-        self.waiting.push(call);
+    /// Has this call compared, at once or by the next `settle`.
+    pub fn ask(&mut self, call: Call) -> Outcome {
+        let question = self.question(call);
+        self.lent_bytes += question.book.len() + question.sheet.len();
+        self.waiting.push(question);
         if self.waiting.len() >= MOST_CALLS || self.lent_bytes >= MOST_LENT_BYTES {
             return self.settle();
         }
         Ok(())
+    }
+
+    /// The calls as the archive made them, compared at once: for what only several answers tell.
+    pub fn answers<const COUNT: usize>(
+        &mut self,
+        calls: [Call; COUNT],
+    ) -> Result<[Call; COUNT], String> {
+        let questions = calls.map(|call| self.question(call));
+        let answers = self.compared(&questions)?;
+        Ok(answers.try_into().expect("an answer to each"))
+    }
+
+    /// The places are filled with junk, so that one which should be written and is not shows, and one that
+    /// should not be and is.
+    fn question(&mut self, mut call: Call) -> Call {
+        call.places = [(); 5].map(|()| self.junk());
+        self.tally.count(call.function);
+        call
     }
 
     /// Any number, or the pattern of a NaN, which a copy as a double might change.
@@ -73,17 +87,22 @@ impl Comparison {
     pub fn settle(&mut self) -> Outcome {
         let questions = std::mem::take(&mut self.waiting);
         self.lent_bytes = 0;
-        let archive = made(self.archive.as_mut(), &questions)
+        self.compared(&questions).map(drop)
+    }
+
+    /// What the archive made of them, which is what the second implementation did.
+    fn compared(&mut self, questions: &[Call]) -> Result<Vec<Call>, String> {
+        let archive = made(self.archive.as_mut(), questions)
             .map_err(|error| format!("the archive gives no answer: {error}"))?;
-        let second = made(&mut self.second, &questions).map_err(|error| error.to_string())?;
-        for ((question, archive), second) in questions.iter().zip(archive).zip(second) {
-            if archive != second {
+        let second = made(&mut self.second, questions).map_err(|error| error.to_string())?;
+        for ((question, archive), second) in questions.iter().zip(&archive).zip(second) {
+            if *archive != second {
                 return Err(format!(
                     "{question}: the archive answers {archive}; the second implementation {second}"
                 ));
             }
         }
-        Ok(())
+        Ok(archive)
     }
 
     /// For parts that choose questions by what is answered.
@@ -129,6 +148,7 @@ mod tests {
             Call::walk(state, 8411),
             Call::band(state, [950, 1050]),
             Call::heat(0),
+            Call::heat_table(41_500),
             Call::viscosity(1000),
             Call::sheet(b"0\n0\n0\n0", 6),
             Call::side_with_book(state, 1, 63, &[7; 195], 192),
@@ -231,19 +251,40 @@ mod tests {
         assert!(told.contains("answers 0 and [92232, 93155, "));
     }
 
-    /// Of an answered factor and of one that is refused: in the number, and in the place.
+    /// Of an answer of the heat table, of a factor, and of those that are refused: in the number, in the one
+    /// figure, and in a place that it does not have.
     #[test]
-    fn differences_of_a_factor() {
-        for thousandths in [1000, 99] {
-            let viscosity = || vec![Call::viscosity(thousandths)];
-            assert_eq!(outcome(viscosity(), |_| ()), Ok(()));
-            let changes: [fn(&mut Call); 2] =
-                [|call| call.number ^= 15, |call| call.places[0] += 1];
+    fn differences_of_one_figure() {
+        for (call, asked) in [
+            (Call::heat_table(41_500), "(millikelvin 41500) over"),
+            (Call::heat_table(13_999), "(millikelvin 13999) over"),
+            (Call::heat_table(1_000_001), "(millikelvin 1000001) over"),
+            (Call::viscosity(1000), "(thousandths 1000) over"),
+            (Call::viscosity(99), "(thousandths 99) over"),
+        ] {
+            let call = || vec![call.clone()];
+            assert_eq!(outcome(call(), |_| ()), Ok(()));
+            let changes: [fn(&mut Call); 3] = [
+                |call| call.number ^= 15,
+                |call| call.places[0] += 1,
+                |call| call.places[1] ^= 1,
+            ];
             for change in changes {
-                let told = outcome(viscosity(), change).expect_err("a difference");
-                assert!(told.contains(&format!("(thousandths {thousandths}) over")));
+                let told = outcome(call(), change).expect_err("a difference");
+                assert!(told.contains(asked));
             }
         }
+    }
+
+    /// They come in the order of the questions, and a difference is told of here too.
+    #[test]
+    fn answers() {
+        let calls = || [Call::heat_table(40_000), Call::heat_table(13_999)];
+        let asked = |change| Comparison::new(Box::new(Changed(change))).answers(calls());
+        let answers = asked(|_| ()).expect("no difference");
+        let told = answers.map(|call| (call.number, call.places[0]));
+        assert_eq!(told, [(0, 10_312), (21, 0)]);
+        assert!(asked(|call| call.places[0] += 1).is_err());
     }
 
     /// Of a refused heat capacity, whose double stays; of a sheet's bytes; of a place it does not have.

@@ -34,6 +34,7 @@ fn make(call: &mut Call) {
             boundary::band(first, second, third, fourth, fifth, roots)
         }
         Function::Heat => heat(first, &mut call.places[0]),
+        Function::HeatTable => boundary::heat_table(first, &mut call.places[0]),
         Function::Viscosity => boundary::viscosity(first, &mut call.places[0]),
         Function::Sheet => boundary::sheet(&call.sheet[..call.length], first_of(&mut call.places)),
         Function::SheetLine => {

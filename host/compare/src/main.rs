@@ -14,6 +14,7 @@ mod linked;
 mod parts;
 mod second_side;
 mod served;
+mod tally;
 mod workers;
 
 use boundary::Boundary;
@@ -42,10 +43,10 @@ fn main() -> ExitCode {
 fn run() -> Result<(), String> {
     let Arguments { verbose, served } = arguments(std::env::args().skip(1))?;
     let begin = Instant::now();
-    let counts = workers::run(&parts::units(), || archive(served.as_deref()))?;
+    let tallies = workers::run(&parts::units(), || archive(served.as_deref()))?;
     if verbose {
-        for (part, counts) in counts {
-            println!("{part}: {}", workers::told(&counts));
+        for (part, tally) in tallies {
+            println!("{part}: {tally}");
         }
         println!("{:.1} s", begin.elapsed().as_secs_f64());
     }

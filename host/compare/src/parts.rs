@@ -3,6 +3,7 @@
 mod bands;
 mod books;
 mod doubles;
+mod heat_table;
 mod sheets;
 mod sides;
 mod split;
@@ -50,6 +51,7 @@ const NO_SIDES: [u64; 6] = [2, 3, 1 << 32, (1 << 32) + 1, 1 << 63, u64::MAX];
 /// The quick parts first.
 pub fn units() -> Vec<Unit> {
     let mut units = doubles::units();
+    units.extend(heat_table::units());
     units.extend(viscosities::units());
     units.extend(sheets::units());
     units.extend(sides::units());
@@ -82,6 +84,24 @@ fn spread_over(
         ask(comparison, state, &mut random)?;
     }
     Ok(())
+}
+
+/// From 2^12 on, below which the parts ask for every number, and 0, from which it goes backwards to the largest.
+fn powers_of_two() -> impl Iterator<Item = u64> {
+    (12..64).map(|power| 1 << power).chain([0])
+}
+
+/// What lies so far from each of these, on either side.
+fn beside(places: impl Iterator<Item = u64>, near: &'static [u64]) -> impl Iterator<Item = u64> {
+    places.flat_map(move |place| {
+        near.iter()
+            .flat_map(move |&near| [place.wrapping_add(near), place.wrapping_sub(near)])
+    })
+}
+
+fn of_all_magnitudes(count: usize, seed: u64) -> impl Iterator<Item = u64> {
+    let mut random = Random(seed);
+    (0..count).map(move |_| random.number() >> (random.number() % 64))
 }
 
 fn unit(

@@ -4,6 +4,7 @@ use crate::boundary::Boundary;
 use crate::call::{Call, Function};
 use second::band::{BandReply, Scaled};
 use second::heat::heat_capacity;
+use second::heat_table::tabled_heat_capacity;
 use second::sheet::{self, Refusal};
 use second::state::{put_into_book, put_side_into_book, reply, side_of, Reply, SideReply};
 use second::viscosity::excess_factor;
@@ -34,7 +35,8 @@ impl Boundary for Second {
                 Function::Walk => self.walk(call),
                 Function::Band => self.band(call),
                 Function::Heat => heat(call),
-                Function::Viscosity => viscosity(call),
+                Function::HeatTable => write_figure(call, tabled_heat_capacity(call.arguments[0])),
+                Function::Viscosity => write_figure(call, excess_factor(call.arguments[0])),
                 Function::Sheet => whole_sheet(call),
                 Function::SheetLine => sheet_line(call),
             }
@@ -139,9 +141,9 @@ fn heat(call: &mut Call) {
 }
 
 /// Where it is refused the place is 0.
-fn viscosity(call: &mut Call) {
-    (call.number, call.places[0]) = match excess_factor(call.arguments[0]) {
-        Ok(factor) => (0, factor),
+fn write_figure(call: &mut Call, reply: Result<u64, u64>) {
+    (call.number, call.places[0]) = match reply {
+        Ok(figure) => (0, figure),
         Err(number) => (number, 0),
     };
 }

@@ -88,10 +88,12 @@ fn exchange(
 
 impl Boundary for Served {
     fn make(&mut self, calls: &mut [Call]) -> io::Result<()> {
-        let batch = self.ask(calls.iter().flat_map(bytes_of).collect())?;
+        let mut batch = Vec::with_capacity(calls.iter().map(length_of).sum());
+        calls.iter().for_each(|call| put(call, &mut batch));
+        let batch = self.ask(batch)?;
         let mut rest = &batch[..];
         for call in calls {
-            let (answer, others) = rest.split_at(bytes_of(call).len());
+            let (answer, others) = rest.split_at(length_of(call));
             answered(call, answer)?;
             rest = others;
         }
@@ -112,21 +114,35 @@ fn word(number: u64) -> [u8; WORD_BYTES] {
     number.to_le_bytes()
 }
 
-/// What a call lends. Only one of the two is not empty.
-fn lent_by(call: &Call) -> Vec<u8> {
-    [&call.book[..], &call.sheet[..]].concat()
+/// What a call lends: the book or the sheet, of which only one is not empty.
+fn lent_bytes(call: &Call) -> usize {
+    call.book.len() + call.sheet.len()
+}
+
+/// How many bytes a call takes in a batch.
+fn length_of(call: &Call) -> usize {
+    WORDS * WORD_BYTES + lent_bytes(call).next_multiple_of(WORD_BYTES)
 }
 
 fn bytes_of(call: &Call) -> Vec<u8> {
-    let mut lent = lent_by(call);
-    let mut words = vec![call.function as u64];
-    words.extend(call.arguments);
-    words.extend([call.length as u64, lent.len() as u64]);
-    words.extend(call.places);
-    let mut bytes: Vec<u8> = words.into_iter().flat_map(word).collect();
-    bytes.append(&mut lent);
-    bytes.resize(bytes.len().next_multiple_of(WORD_BYTES), 0);
+    let mut bytes = Vec::with_capacity(length_of(call));
+    put(call, &mut bytes);
     bytes
+}
+
+/// Behind what is there. The caller has made room: if millions of vectors grew here, the workers would wait for
+/// each other in the allocator.
+fn put(call: &Call, bytes: &mut Vec<u8>) {
+    let end = bytes.len() + length_of(call);
+    let mut put_word = |number| bytes.extend_from_slice(&word(number));
+    put_word(call.function as u64);
+    call.arguments.into_iter().for_each(&mut put_word);
+    put_word(call.length as u64);
+    put_word(lent_bytes(call) as u64);
+    call.places.into_iter().for_each(&mut put_word);
+    bytes.extend_from_slice(&call.book);
+    bytes.extend_from_slice(&call.sheet);
+    bytes.resize(end, 0);
 }
 
 /// Takes the answer over. All else must have come back as it was sent.

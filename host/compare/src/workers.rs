@@ -1,8 +1,8 @@
 //! Runs the units on every core. Whatever the cores do, the same difference is told in every run.
 
 use crate::boundary::Boundary;
-use crate::call::NAMES;
-use crate::comparison::{Comparison, Counts, Outcome};
+use crate::comparison::{Comparison, Outcome};
+use crate::tally::Tally;
 use std::collections::BTreeMap;
 use std::sync::atomic::{AtomicBool, AtomicUsize, Ordering};
 use std::thread;
@@ -14,14 +14,14 @@ pub struct Unit {
 }
 
 /// What came of the units that were begun, by their order.
-type Told = BTreeMap<usize, Result<Counts, String>>;
+type Told = BTreeMap<usize, Result<Tally, String>>;
 
-/// The counts of each part by its name, or the difference of the first unit that has one. Each worker has
-/// an archive of its own.
+/// The tally of each part by its name, or the difference of the first unit that has one. Each worker has an
+/// archive of its own.
 pub fn run(
     units: &[Unit],
     archive: impl Fn() -> Result<Box<dyn Boundary>, String> + Sync,
-) -> Result<BTreeMap<&'static str, Counts>, String> {
+) -> Result<BTreeMap<&'static str, Tally>, String> {
     let cores = thread::available_parallelism().map_or(1, |cores| cores.get());
     let queue = Queue {
         units,
@@ -37,14 +37,12 @@ pub fn run(
             .collect();
         Ok(told?.into_iter().flatten().collect())
     })?;
-    let mut counts: BTreeMap<&'static str, Counts> = BTreeMap::new();
+    let mut tallies: BTreeMap<&'static str, Tally> = BTreeMap::new();
     for (index, outcome) in told {
-        let sums = counts.entry(units[index].part).or_default();
-        for (sum, count) in sums.iter_mut().zip(outcome?) {
-            *sum += count;
-        }
+        let tally = tallies.entry(units[index].part).or_default();
+        tally.add(outcome?);
     }
-    Ok(counts)
+    Ok(tallies)
 }
 
 /// The units that wait. They are begun in their order, and one that is begun is ended, so the first that
@@ -71,18 +69,9 @@ impl Queue<'_> {
     }
 }
 
-fn compared(comparison: &mut Comparison, index: usize, unit: &Unit) -> Result<Counts, String> {
+fn compared(comparison: &mut Comparison, index: usize, unit: &Unit) -> Result<Tally, String> {
     comparison.begin(index as u64);
     (unit.ask)(comparison)?;
     comparison.settle()?;
-    Ok(comparison.counts)
-}
-
-/// The counts with the functions' names.
-pub fn told(counts: &Counts) -> String {
-    let made = NAMES.iter().zip(counts).filter(|(_, &count)| count > 0);
-    let words: Vec<String> = made
-        .map(|(name, count)| format!("{count} {name}"))
-        .collect();
-    words.join(", ")
+    Ok(std::mem::take(&mut comparison.tally))
 }

@@ -2,7 +2,7 @@
 //! fixes.
 
 /// A1 to A5 of each range, as printed. They stay text here, since Rust's parser answers the double
-/// nearest to a decimal, which is what the paper asks for.
+/// nearest to a decimal, which is what the paper asks for, and the table of C-17 has them exactly.
 pub const TABLE_4: [&str; 4] = [
     "10.3121 0 0 0 0",
     "14.759936 -0.21977388 0.32100769e-2 -0.120615002e-4 0.57121808e-8",
@@ -30,7 +30,7 @@ pub fn heat_capacity(kelvin: f64) -> Result<f64, u64> {
 }
 
 /// The row of Table 4, counted from 0. Each range holds its upper end.
-fn row(kelvin: f64) -> usize {
+pub(crate) fn row(kelvin: f64) -> usize {
     if kelvin <= 40.0 {
         0
     } else if kelvin <= 150.0 {

@@ -6,8 +6,10 @@ pub mod band;
 #[cfg(test)]
 mod cases;
 pub mod cubic;
+mod fraction;
 pub mod heat;
 pub mod heat_list;
+pub mod heat_table;
 pub mod random;
 pub mod sheet;
 pub mod sheet_list;

@@ -1,7 +1,7 @@
 //! Document 02, C-24: the excess viscosity factor of equation 2.12-2 in source document 001, worked out in
 //! exact fractions, so that every rounding is one that the paper asks for.
 
-use std::ops::{Add, Mul, Sub};
+use crate::fraction::Fraction;
 
 /// The coefficients of the quartic as printed, that of the fourth power first.
 pub const QUARTIC: &str = "0.093324 -0.40758 0.58533 0.23364 1.0230";
@@ -16,90 +16,29 @@ pub fn excess_factor(thousandths: u64) -> Result<u64, u64> {
         return Err(15);
     }
     let factor = factor_of(quartic(Fraction::new(thousandths.into(), 1000)));
-    Ok(u64::try_from(factor.millionths()).expect("a factor above 0"))
+    Ok(u64::try_from(millionths(factor)).expect("a factor above 0"))
 }
 
 /// From the exact value of the quartic, with the paper's three roundings.
 fn factor_of(quartic: Fraction) -> Fraction {
-    let y = quartic.rounded_down();
-    let square = (y * y).rounded_down();
-    let fourth_power = (square * square).rounded_down();
+    let y = rounded_down(quartic);
+    let square = rounded_down(y * y);
+    let fourth_power = rounded_down(square * square);
     fourth_power - Fraction::new(1, 1)
 }
 
-/// By nested products, with nothing rounded.
+/// With nothing rounded.
 fn quartic(density: Fraction) -> Fraction {
-    let nothing = Fraction::new(0, 1);
-    let coefficients = QUARTIC.split(' ').map(Fraction::printed);
-    coefficients.fold(nothing, |sum, coefficient| sum * density + coefficient)
+    Fraction::polynomial(QUARTIC.split(' '), density)
 }
 
-/// A fraction in its lowest terms, with a divisor above 0.
-#[derive(Clone, Copy, Debug, PartialEq, Eq)]
-struct Fraction {
-    dividend: i128,
-    divisor: i128,
+fn rounded_down(exact: Fraction) -> Fraction {
+    Fraction::new(millionths(exact), 1_000_000)
 }
 
-impl Fraction {
-    fn new(dividend: i128, divisor: i128) -> Fraction {
-        assert!(divisor > 0);
-        let common = common_divisor(dividend.abs(), divisor);
-        Fraction {
-            dividend: dividend / common,
-            divisor: divisor / common,
-        }
-    }
-
-    /// A printed decimal.
-    fn printed(decimal: &str) -> Fraction {
-        let (whole, digits) = decimal.split_once('.').expect("a decimal point");
-        let all = format!("{whole}{digits}").parse().expect("a decimal");
-        Fraction::new(all, 10_i128.pow(digits.len() as u32))
-    }
-
-    /// How many whole millionths it has.
-    fn millionths(self) -> i128 {
-        (self.dividend * 1_000_000).div_euclid(self.divisor)
-    }
-
-    fn rounded_down(self) -> Fraction {
-        Fraction::new(self.millionths(), 1_000_000)
-    }
-}
-
-impl Add for Fraction {
-    type Output = Fraction;
-
-    fn add(self, other: Fraction) -> Fraction {
-        let dividend = self.dividend * other.divisor + other.dividend * self.divisor;
-        Fraction::new(dividend, self.divisor * other.divisor)
-    }
-}
-
-impl Sub for Fraction {
-    type Output = Fraction;
-
-    fn sub(self, other: Fraction) -> Fraction {
-        self + Fraction::new(-other.dividend, other.divisor)
-    }
-}
-
-impl Mul for Fraction {
-    type Output = Fraction;
-
-    fn mul(self, other: Fraction) -> Fraction {
-        let dividend = self.dividend * other.dividend;
-        Fraction::new(dividend, self.divisor * other.divisor)
-    }
-}
-
-/// By Euclid's way.
-fn common_divisor(one: i128, other: i128) -> i128 {
-    if other == 0 {
-        return one;
-    }
-    common_divisor(other, one % other)
+/// How many whole millionths it has.
+fn millionths(exact: Fraction) -> i128 {
+    exact.parts(1_000_000)
 }
 
 #[cfg(test)]
@@ -135,7 +74,7 @@ mod tests {
     #[test]
     fn at_a_density_of_zero() {
         assert_eq!(quartic(density(0)), Fraction::printed("1.0230"));
-        assert_eq!(factor_of(quartic(density(0))).millionths(), 95_222);
+        assert_eq!(millionths(factor_of(quartic(density(0)))), 95_222);
     }
 
     /// A thousandth more of density is more of the factor, in the whole range.
@@ -148,7 +87,7 @@ mod tests {
     /// At how many densities of the range this way gives another factor.
     fn others(way: fn(Fraction) -> Fraction) -> usize {
         (THINNEST..=DENSEST)
-            .filter(|&x| way(density(x)).millionths() != factor(x).into())
+            .filter(|&x| millionths(way(density(x))) != factor(x).into())
             .count()
     }
 
@@ -167,7 +106,7 @@ mod tests {
     }
 
     fn squared_once(x: Fraction) -> Fraction {
-        let y = quartic(x).rounded_down();
+        let y = rounded_down(quartic(x));
         y * y - Fraction::new(1, 1)
     }
 
@@ -178,7 +117,7 @@ mod tests {
     /// Six digits more than the paper's in the quartic and its square, so that the last rounding alone shows.
     fn rounded_at_the_end(x: Fraction) -> Fraction {
         let million = Fraction::new(1_000_000, 1);
-        let down = |exact: Fraction| (exact * million).rounded_down() * Fraction::new(1, 1_000_000);
+        let down = |exact: Fraction| rounded_down(exact * million) * Fraction::new(1, 1_000_000);
         let y = down(quartic(x));
         let square = down(y * y);
         square * square - Fraction::new(1, 1)

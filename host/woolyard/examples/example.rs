@@ -78,6 +78,10 @@ fn main() -> Result<(), Refusal> {
     }
 
     println!("hydrogen at 300 K: {:.6} kJ/(kg K)", woolyard::heat(300.0)?);
+    let heat = woolyard::heat_table(300_000)?;
+    println!("hydrogen at 300000 mK, from the table: {heat} J/(kg K)");
+    let heat = woolyard::heat_table(41_500)?;
+    println!("hydrogen at 41500 mK, between two entries: {heat} J/(kg K)");
 
     let factor = woolyard::viscosity(1500)?;
     println!("at 1.500 of the critical density: excess viscosity factor {factor} millionths");

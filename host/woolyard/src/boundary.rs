@@ -1,4 +1,4 @@
-//! The ten functions of include/woolyard.h, as they are: numbers in, the reply's number out, and the
+//! The eleven functions of include/woolyard.h, as they are: numbers in, the reply's number out, and the
 //! figures in the places that the caller lends. All that is unsafe stands here.
 //!
 //! The header asks that a pointer points to as many elements as its array or its length says, that it
@@ -70,6 +70,7 @@ mod foreign {
             roots: *mut [u64; super::BAND_ROOTS],
         ) -> u64;
         pub fn woolyard_heat(kelvin: f64, heat: *mut f64) -> u64;
+        pub fn woolyard_heat_table(millikelvin: u64, heat: *mut u64) -> u64;
         pub fn woolyard_viscosity(thousandths: u64, factor: *mut u64) -> u64;
         pub fn woolyard_sheet(sheet: *const u8, length: usize, reading: *mut [u64; 3]) -> u64;
         pub fn woolyard_sheet_line(
@@ -179,6 +180,13 @@ pub fn band(
 pub fn heat(kelvin: f64, heat: &mut f64) -> u64 {
     // SAFETY: `heat` is the one place that is written, and nothing else is lent.
     unsafe { foreign::woolyard_heat(kelvin, heat) }
+}
+
+/// `woolyard_heat_table`: any number at all; where it is refused, `heat` is 0.
+#[inline]
+pub fn heat_table(millikelvin: u64, heat: &mut u64) -> u64 {
+    // SAFETY: `heat` is the one place that is written, and nothing else is lent.
+    unsafe { foreign::woolyard_heat_table(millikelvin, heat) }
 }
 
 /// `woolyard_viscosity`: any number at all; where it is refused, `factor` is 0.

@@ -176,6 +176,24 @@ pub fn heat(kelvin: f64) -> Result<f64, Refusal> {
     Ok(heat)
 }
 
+/// The same in whole numbers, for a machine that has no doubles: J/(kg K), at a temperature in millikelvin, any
+/// number at all. At a whole kelvin it is the polynomial of Table 4 with its decimals as they are printed, worked
+/// out exactly, times 1000 and rounded down; between two it is the straight line between their whole numbers,
+/// rounded down. Below 14,000 it is refusal 21, and above 1,000,000 refusal 22, as for parahydrogen.
+///
+/// ```
+/// use woolyard::Refusal;
+///
+/// assert_eq!(woolyard::heat_table(300_000), Ok(14_842));
+/// assert_eq!(woolyard::heat_table(41_500), Ok(10_323));
+/// assert_eq!(woolyard::heat_table(13_999), Err(Refusal::TemperatureTooLow));
+/// ```
+pub fn heat_table(millikelvin: u64) -> Result<u64, Refusal> {
+    let mut heat = 0;
+    Refusal::check(boundary::heat_table(millikelvin, &mut heat))?;
+    Ok(heat)
+}
+
 /// The excess viscosity factor of TM-564's equation (2.12-2), in millionths, at a reduced density in
 /// thousandths, any number at all: what the equation has in braces, worked out exactly and rounded down three
 /// times. Its 1e-7 and its xi stay with the caller. Below 100, where the formula can't be used, and above 3000

@@ -1,4 +1,4 @@
-//! Document 01, "Points worked through" and "State sheets", and document 02, C-14, C-18 to C-20, C-22 and C-24.
+//! Document 01, "Points worked through" and "State sheets", and document 02, C-14, C-17 to C-20, C-22 and C-24.
 
 use super::*;
 
@@ -348,6 +348,53 @@ fn heat_capacities() {
     }
 }
 
+/// Beside the ends of the rows of Table 4; where the table rises, and where it falls; and the last kelvin.
+#[test]
+fn heat_table_answers() {
+    for (millikelvin, expected) in [
+        (14_000, 10_312),
+        (40_000, 10_312),
+        (40_001, 10_312),
+        (40_999, 10_329),
+        (41_000, 10_330),
+        (41_001, 10_329),
+        (41_500, 10_323),
+        (41_999, 10_316),
+        (42_000, 10_316),
+        (150_000, 16_204),
+        (151_000, 16_208),
+        (500_000, 14_515),
+        (501_000, 14_515),
+        (999_999, 15_132),
+        (1_000_000, 15_133),
+    ] {
+        assert_eq!(heat_table(millikelvin), Ok(expected), "{millikelvin}");
+    }
+}
+
+/// A call that is refused by this number, which writes 0.
+fn refused_with_zero(call: fn(u64, &mut u64) -> u64, argument: u64, refusal: Refusal) {
+    let mut place = 7;
+    assert_eq!(call(argument, &mut place), refusal.number());
+    assert_eq!(place, 0);
+}
+
+#[test]
+fn heat_table_refusals() {
+    for (millikelvin, refusal) in [
+        (0, Refusal::TemperatureTooLow),
+        (13_999, Refusal::TemperatureTooLow),
+        (1_000_001, Refusal::TemperatureTooHigh),
+        // 300,000 to whoever keeps 32 bits, and to whoever keeps 16 bits of the kelvins
+        ((1 << 32) + 300_000, Refusal::TemperatureTooHigh),
+        ((1000 << 16) + 300_000, Refusal::TemperatureTooHigh),
+        (u64::MAX, Refusal::TemperatureTooHigh),
+    ] {
+        assert_eq!(heat_table(millikelvin), Err(refusal));
+        refused_with_zero(boundary::heat_table, millikelvin, refusal);
+    }
+}
+
 #[test]
 fn excess_viscosity_factors() {
     assert_eq!(viscosity(100), Ok(223_950));
@@ -355,10 +402,9 @@ fn excess_viscosity_factors() {
     assert_eq!(viscosity(3000), Ok(157_192_927));
     // the last but one is 1000 to whoever keeps 32 bits
     for thousandths in [0, 99, 3001, (1 << 32) + 1000, u64::MAX] {
-        assert_eq!(viscosity(thousandths), Err(Refusal::DensityOutOfRange));
-        let mut factor = 7;
-        assert_eq!(boundary::viscosity(thousandths, &mut factor), 15);
-        assert_eq!(factor, 0);
+        let refusal = Refusal::DensityOutOfRange;
+        assert_eq!(viscosity(thousandths), Err(refusal));
+        refused_with_zero(boundary::viscosity, thousandths, refusal);
     }
 }
 

@@ -1,10 +1,9 @@
 //! Reduced densities for the excess viscosity factor: every one of the range and beside it, and far ones.
 
-use super::unit;
+use super::{beside, of_all_magnitudes, powers_of_two, unit};
 use crate::call::Call;
 use crate::comparison::{Comparison, Outcome};
 use crate::workers::Unit;
-use second::random::Random;
 use second::viscosity::{DENSEST, THINNEST};
 
 const PART: &str = "viscosities";
@@ -21,22 +20,13 @@ const OF_ALL_MAGNITUDES: usize = 20_000;
 pub fn units() -> Vec<Unit> {
     vec![
         unit(PART, |comparison| ask(comparison, 0..=LAST)),
-        unit(PART, |comparison| ask(comparison, near_powers_of_two())),
-        unit(PART, |comparison| ask(comparison, of_all_magnitudes())),
+        unit(PART, |comparison| {
+            ask(comparison, beside(powers_of_two(), &NEAR))
+        }),
+        unit(PART, |comparison| {
+            ask(comparison, of_all_magnitudes(OF_ALL_MAGNITUDES, 0))
+        }),
     ]
-}
-
-fn near_powers_of_two() -> impl Iterator<Item = u64> {
-    let powers = (12..64).map(|power| 1 << power);
-    powers.chain([0_u64]).flat_map(|power| {
-        NEAR.into_iter()
-            .flat_map(move |near| [power.wrapping_add(near), power.wrapping_sub(near)])
-    })
-}
-
-fn of_all_magnitudes() -> impl Iterator<Item = u64> {
-    let mut random = Random(0);
-    (0..OF_ALL_MAGNITUDES).map(move |_| random.number() >> (random.number() % 64))
 }
 
 fn ask(comparison: &mut Comparison, densities: impl Iterator<Item = u64>) -> Outcome {

@@ -3,7 +3,7 @@
 
 use super::split::{around, edges_of};
 use super::states::{all_ends, FLUID_NUMBERS};
-use super::{spread_over, unit, FLUIDS, WORKED};
+use super::{of_all_magnitudes, spread_over, unit, FLUIDS, WORKED};
 use crate::call::Call;
 use crate::comparison::{Comparison, Outcome};
 use crate::workers::Unit;
@@ -62,8 +62,7 @@ fn any_limits(comparison: &mut Comparison, state: [u64; 3]) -> Outcome {
     let powers = (1..64).map(|power| 1_u64 << power);
     let beside_powers = powers.flat_map(|power| [power - 1, power, power + 1]);
     ask(comparison, state, beside_powers)?;
-    let mut random = Random(state[1] ^ state[2]);
-    let any = (0..OF_ALL_MAGNITUDES).map(|_| random.number() >> (random.number() % 64));
+    let any = of_all_magnitudes(OF_ALL_MAGNITUDES, state[1] ^ state[2]);
     ask(comparison, state, any)
 }
 

@@ -3,7 +3,8 @@
 use mathlib.Core.Path.{refl}
 use borrow.Author.Needs.{needs}
 use lib.Ieee.{Float, ofBits}
-use Rattle.heat.specs.Table.{Range, up-to-40, up-to-150, up-to-500, above-500, Holds, coefficientsOf}
+use Rattle.heat.specs.Printed.{Range, up-to-40, up-to-150, up-to-500, above-500}
+use Rattle.heat.specs.Table.{Holds, coefficientsOf}
 use Rattle.heat.specs.Inside.{RowFor}
 use Rattle.heat.proofs.Limits.{at-most, above}
 use Rattle.heat.proofs.table.coefficients_at.Statement.{statement}

@@ -2,7 +2,8 @@
 -- Assumes nothing.
 use mathlib.Core.Path.{refl}
 use lib.Ieee.{ofBits, round}
-use Rattle.heat.specs.Table.{printed, nearestDouble, coefficientsOf}
+use Rattle.heat.specs.Printed.{printed}
+use Rattle.heat.specs.Table.{nearestDouble, coefficientsOf}
 use Rattle.heat.proofs.table.table_4.Statement.{statement}
 use Rattle.heat.proofs.table.table_4.Tie as tie
 

@@ -1,0 +1,47 @@
+// Hydrogen's ideal heat capacity for a machine that has no doubles (document 02, C-17): any number at all is
+// a temperature to ask for, in millikelvin, and gets a whole number of J/(kg K) or a refusal.
+mod entries;
+mod replies;
+
+ghost use Prim.Native.Nat.{_≤_};
+ghost use Rattle.heat_table.specs.Line.{OnLine};
+ghost use Rattle.heat_table.specs.Replies.{Replies, figuresOf};
+use crate::entries::entries;
+use crate::entries::entry;
+use refusals::Refusal;
+pub use replies::TableFigures;
+pub use replies::TableHeat;
+
+// Where the table begins and ends, as for hydrogen.
+const COLDEST_MILLIKELVIN: u64 = 14_000;
+
+const HOTTEST_MILLIKELVIN: u64 = 1_000_000;
+
+// The straight line from one entry to the next, so many millikelvins past the first, rounded down.
+fn on_line(low: u16, high: u16, past: u64) -> u64
+    requires { ⌜ past ≤ 1000 ⌝ }
+    ensures { λ r. ⌜ OnLine low high past r ⌝ }
+{
+    (low as u64 * (1_000 - past) + high as u64 * past) / 1_000
+}
+
+// The last entry has no neighbour above it.
+pub fn ideal_heat_capacity(millikelvin: u64) -> TableHeat
+    ensures { λ r. ⌜ Replies millikelvin (figuresOf r) ⌝ }
+{
+    if millikelvin < COLDEST_MILLIKELVIN {
+        return TableHeat::Refused(Refusal::TemperatureTooLow);
+    }
+    if HOTTEST_MILLIKELVIN < millikelvin {
+        return TableHeat::Refused(Refusal::TemperatureTooHigh);
+    }
+    let table = entries();
+    let kelvin = millikelvin / 1_000;
+    let low = entry(&table, kelvin);
+    if millikelvin == HOTTEST_MILLIKELVIN {
+        let heat = low as u64;
+        return TableHeat::JoulesPerKilogramKelvin(heat);
+    }
+    let high = entry(&table, kelvin + 1);
+    TableHeat::JoulesPerKilogramKelvin(on_line(low, high, millikelvin % 1_000))
+}
