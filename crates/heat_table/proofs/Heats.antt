@@ -17,37 +17,37 @@ module _ {millikelvin heat : ℕ} (at : HeatAt millikelvin heat) where
   not-past = omega (arith, at .on-line .is-ahead)
 
   -- Two lines that have one temperature are the same, or one ends where the other starts.
-  pub on-every-line : {kelvin past low high : ℕ} → 1000 * kelvin + past ≡ millikelvin → past ≤ 1000 → Entry kelvin low → Entry (kelvin + 1) high → OnLine low high past heat
-  on-every-line {kelvin} {past} {low} {high} is-past inside is-low is-high = by-order (decLe (at .kelvin) kelvin) (decLe kelvin (at .kelvin))
+  pub on-every-line : {kelvin past below above : ℕ} → 1000 * kelvin + past ≡ millikelvin → past ≤ 1000 → Entry kelvin below → Entry (kelvin + 1) above → OnLine below above past heat
+  on-every-line {kelvin} {past} {below} {above} is-past inside is-below is-above = by-order (decLe (at .kelvin) kelvin) (decLe kelvin (at .kelvin))
     where
-      by-order : Dec (at .kelvin ≤ kelvin) → Dec (kelvin ≤ at .kelvin) → OnLine low high past heat
+      by-order : Dec (at .kelvin ≤ kelvin) → Dec (kelvin ≤ at .kelvin) → OnLine below above past heat
       by-order (yes h) (yes k) =
           let same : at .kelvin ≡ kelvin = omega arith in
           let same-past : at .past ≡ past = omega (arith, at .is-past) in
-          let same-low : at .low ≡ low = entry-once (named same (at .is-low)) is-low in
-          let same-high : at .high ≡ high = entry-once (named (omega arith) (at .is-high)) is-high in
-          rw same-past at (rw same-low at (rw same-high at (at .on-line)))
+          let same-below : at .below ≡ below = entry-once (named same (at .is-below)) is-below in
+          let same-above : at .above ≡ above = entry-once (named (omega arith) (at .is-above)) is-above in
+          rw same-past at (rw same-below at (rw same-above at (at .on-line)))
       by-order (yes h) (no f) =
           let is-end : at .past ≡ 1000 = omega (arith, at .is-past, not-past) in
           let is-start : past ≡ 0 = omega (arith, at .is-past, not-past) in
           let next : at .kelvin + 1 ≡ kelvin = omega (arith, at .is-past, not-past) in
-          let is-heat : heat ≡ low = at-end (at .on-line) is-end ∙ entry-once (named next (at .is-high)) is-low in
-          rw is-heat (rw is-start (starts low high))
+          let is-heat : heat ≡ below = at-end (at .on-line) is-end ∙ entry-once (named next (at .is-above)) is-below in
+          rw is-heat (rw is-start (starts below above))
       by-order (no f) k =
           let is-start : at .past ≡ 0 = omega (arith, at .is-past) in
           let is-end : past ≡ 1000 = omega (arith, at .is-past) in
           let next : kelvin + 1 ≡ at .kelvin = omega (arith, at .is-past) in
-          let is-heat : heat ≡ high = at-start (at .on-line) is-start ∙ sym (entry-once (named next is-high) (at .is-low)) in
-          rw is-heat (rw is-end (ends low high))
+          let is-heat : heat ≡ above = at-start (at .on-line) is-start ∙ sym (entry-once (named next is-above) (at .is-below)) in
+          rw is-heat (rw is-end (ends below above))
 
 pub heat-once : {millikelvin heat other : ℕ} → HeatAt millikelvin heat → HeatAt millikelvin other → heat ≡ other
-heat-once p q = line-once (on-every-line p (q .is-past) (not-past q) (q .is-low) (q .is-high)) (q .on-line)
+heat-once p q = line-once (on-every-line p (q .is-past) (not-past q) (q .is-below) (q .is-above)) (q .on-line)
 
 -- the last entry, at the end of the last line
 pub at-last : {heat : ℕ} → Entry last heat → HeatAt (1000 * last) heat
 at-last {heat} is-last =
     let before = every-kelvin-has-an-entry 999 (omega arith) (omega arith) in
-    record { kelvin = 999; past = 1000; is-past = refl; low = before .0; is-low = before .1; high = heat; is-high = is-last; on-line = ends (before .0) heat }
+    record { kelvin = 999; past = 1000; is-past = refl; below = before .0; is-below = before .1; above = heat; is-above = is-last; on-line = ends (before .0) heat }
 
 -- and at every whole kelvin, its entry
 pub at-kelvin : {kelvin heat : ℕ} → Entry kelvin heat → HeatAt (1000 * kelvin) heat
@@ -59,4 +59,4 @@ at-kelvin {kelvin} {heat} is-entry = by-test (decLe last kelvin)
         subst (λ (k : ℕ). HeatAt (1000 * k) heat) (sym same) (at-last (named same is-entry))
     by-test (no f) =
         let next = every-kelvin-has-an-entry (kelvin + 1) (omega (arith, is-entry .from-first)) (omega arith) in
-        record { kelvin = kelvin; past = 0; is-past = omega arith; low = heat; is-low = is-entry; high = next .0; is-high = next .1; on-line = starts heat (next .0) }
+        record { kelvin = kelvin; past = 0; is-past = omega arith; below = heat; is-below = is-entry; above = next .0; is-above = next .1; on-line = starts heat (next .0) }

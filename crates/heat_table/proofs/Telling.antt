@@ -24,21 +24,21 @@ module _ {millikelvin : ℕ} where
   pub tells-heat : {heat : ℕ} → HeatAt millikelvin heat → Replies millikelvin (figuresOf (JoulesPerKilogramKelvin heat))
   tells-heat at =
       answers
-      (temperature-passes Hydrogen refl (omega (arith, at .is-past, at .is-low .from-first)) (omega (arith, at .is-past, at .on-line .is-ahead, at .is-high .to-last)))
+      (temperature-passes Hydrogen refl (omega (arith, at .is-past, at .is-below .from-first)) (omega (arith, at .is-past, at .on-line .is-ahead, at .is-above .to-last)))
       (record { is-answered = refl; is-heat = at })
 
   -- as the code finds it: on the line from the whole kelvin below, or at the last
-  pub tells-on-line : {low high heat : ℕ} → Entry (millikelvin / 1000) low → Entry (millikelvin / 1000 + 1) high → OnLine low high (millikelvin % 1000) heat → Replies millikelvin (figuresOf (JoulesPerKilogramKelvin heat))
-  tells-on-line is-low is-high on-line =
+  pub tells-on-line : {below above heat : ℕ} → Entry (millikelvin / 1000) below → Entry (millikelvin / 1000 + 1) above → OnLine below above (millikelvin % 1000) heat → Replies millikelvin (figuresOf (JoulesPerKilogramKelvin heat))
+  tells-on-line is-below is-above on-line =
       tells-heat
       (record {
         kelvin = millikelvin / 1000;
         past = millikelvin % 1000;
         is-past = omega arith;
-        low = _;
-        is-low = is-low;
-        high = _;
-        is-high = is-high;
+        below = _;
+        is-below = is-below;
+        above = _;
+        is-above = is-above;
         on-line = on-line;
       })
 

@@ -8,8 +8,7 @@ use native.Mathlib.Omega.{arith}
 use native.Mathlib.Decide.{decLt}
 use Rattle.refusals.specs.Checks.{NoneOf, refuses, answers}
 use Rattle.refusals.specs.declared.Refusal.the-variants.{TemperatureTooLow, TemperatureTooHigh}
-use Rattle.refusals.proofs.Lists.{none-or-first}
-use Rattle.refusals.proofs.Theorems.{number-determines-refusal, never-zero, tells-once, zero-is-answered}
+use Rattle.refusals.proofs.Theorems.{number-determines-refusal, never-zero, tells-once, none-is-answered, zero-is-answered}
 use Rattle.fluid.specs.declared.choice.Fluid.the-variants.{Hydrogen}
 use Rattle.fluid.specs.Figures.{coldest, hottest}
 use Rattle.fluid.proofs.Accepting.{temperature-passes, temperature-accepted}
@@ -62,13 +61,13 @@ module _ (millikelvin : ℕ) where
   every-temperature-has-a-reply = by-ends (decLt millikelvin (coldest Hydrogen)) (decLt millikelvin hottest) (decLt hottest millikelvin)
     where
       by-ends : Dec (millikelvin < coldest Hydrogen) → Dec (millikelvin < hottest) → Dec (hottest < millikelvin) → (reply : TableHeat) × Replies millikelvin (figuresOf reply)
-      by-ends (yes cold) below above = (Refused TemperatureTooLow, tells-too-low cold)
-      by-ends (no f) below (yes hot) = (Refused TemperatureTooHigh, tells-too-high hot)
-      by-ends (no f) (yes below) (no g) =
-          let low = every-kelvin-has-an-entry (millikelvin / 1000) (omega arith) (omega arith) in
-          let high = every-kelvin-has-an-entry (millikelvin / 1000 + 1) (omega arith) (omega arith) in
-          (JoulesPerKilogramKelvin _, tells-on-line (low .1) (high .1) (line-exists (low .0) (high .0) (millikelvin % 1000) (omega arith)))
-      by-ends (no f) (no below) (no g) =
+      by-ends (yes cold) before past = (Refused TemperatureTooLow, tells-too-low cold)
+      by-ends (no f) before (yes past) = (Refused TemperatureTooHigh, tells-too-high past)
+      by-ends (no f) (yes before) (no g) =
+          let below = every-kelvin-has-an-entry (millikelvin / 1000) (omega arith) (omega arith) in
+          let above = every-kelvin-has-an-entry (millikelvin / 1000 + 1) (omega arith) (omega arith) in
+          (JoulesPerKilogramKelvin _, tells-on-line (below .1) (above .1) (line-exists (below .0) (above .0) (millikelvin % 1000) (omega arith)))
+      by-ends (no f) (no h) (no g) =
           let entry = every-kelvin-has-an-entry (millikelvin / 1000) (omega arith) (omega arith) in
           (JoulesPerKilogramKelvin (entry .0), tells-last (omega arith) (entry .1))
 
@@ -82,19 +81,18 @@ module _ {millikelvin : ℕ} {figures : TableFigures} (replies : Replies millike
   answered : figures .number ≡ 0 → NoneOf (hydrogenChecks millikelvin) × Answered millikelvin figures
   answered is-0 = zero-is-answered numberIn (hydrogenChecks millikelvin) refl (λ refusal told. ap numberIn told) is-0 replies
 
+  in-range : coldest Hydrogen ≤ millikelvin → millikelvin ≤ hottest → Answered millikelvin figures
+  in-range from to = none-is-answered (hydrogenChecks millikelvin) (temperature-passes Hydrogen refl from to) replies
+
   -- refused exactly out of the range of hydrogen's states
   pub answered-exactly : (figures .number ≡ 0) ↔ ((coldest Hydrogen ≤ millikelvin) × (millikelvin ≤ hottest))
-  answered-exactly = (λ is-0. temperature-accepted Hydrogen refl (answered is-0 .0), λ inside. in-range (inside .0) (inside .1) replies)
-    where
-      in-range : coldest Hydrogen ≤ millikelvin → millikelvin ≤ hottest → Replies millikelvin figures → figures .number ≡ 0
-      in-range from to (answers none told) = told .is-answered
-      in-range from to (refuses refusal first told) = absurd (none-or-first (hydrogenChecks millikelvin) refusal (temperature-passes Hydrogen refl from to) first)
+  answered-exactly = (λ is-0. temperature-accepted Hydrogen refl (answered is-0 .0), λ inside. in-range (inside .0) (inside .1) .is-answered)
 
   -- between the entries of any two neighbours that have it between them
-  pub between-neighbours : {kelvin low high : ℕ} → 1000 * kelvin ≤ millikelvin → millikelvin ≤ 1000 * (kelvin + 1) → Entry kelvin low → Entry (kelvin + 1) high → Between low high (figures .heat)
-  between-neighbours {kelvin} from to is-low is-high =
-      let in-range = answered-exactly .1 (omega (arith, is-low .from-first), omega (arith, is-high .to-last)) in
-      lies-between (on-every-line (answered in-range .1 .is-heat) {past = millikelvin - 1000 * kelvin} (omega arith) (omega arith) is-low is-high)
+  pub between-neighbours : {kelvin below above : ℕ} → 1000 * kelvin ≤ millikelvin → millikelvin ≤ 1000 * (kelvin + 1) → Entry kelvin below → Entry (kelvin + 1) above → Between below above (figures .heat)
+  between-neighbours {kelvin} from to is-below is-above =
+      let at = in-range (omega (arith, is-below .from-first)) (omega (arith, is-above .to-last)) .is-heat in
+      lies-between (on-every-line at {past = millikelvin - 1000 * kelvin} (omega arith) (omega arith) is-below is-above)
 
   pub refused-carries-zero : (figures .number ≡ 0 → ⊥) → figures .heat ≡ 0
   refused-carries-zero refused = by-reply replies

@@ -17,12 +17,13 @@ const COLDEST_MILLIKELVIN: u64 = 14_000;
 
 const HOTTEST_MILLIKELVIN: u64 = 1_000_000;
 
-// The straight line from one entry to the next, so many millikelvins past the first, rounded down.
-fn on_line(low: u16, high: u16, past: u64) -> u64
+// The straight line from the entry below to the entry above, so many millikelvins past the first, rounded
+// down.
+fn on_line(below: u16, above: u16, past: u64) -> u64
     requires { ⌜ past ≤ 1000 ⌝ }
-    ensures { λ r. ⌜ OnLine low high past r ⌝ }
+    ensures { λ r. ⌜ OnLine below above past r ⌝ }
 {
-    (low as u64 * (1_000 - past) + high as u64 * past) / 1_000
+    (below as u64 * (1_000 - past) + above as u64 * past) / 1_000
 }
 
 // The last entry has no neighbour above it.
@@ -37,11 +38,11 @@ pub fn ideal_heat_capacity(millikelvin: u64) -> TableHeat
     }
     let table = entries();
     let kelvin = millikelvin / 1_000;
-    let low = entry(&table, kelvin);
+    let below = entry(&table, kelvin);
     if millikelvin == HOTTEST_MILLIKELVIN {
-        let heat = low as u64;
+        let heat = below as u64;
         return TableHeat::JoulesPerKilogramKelvin(heat);
     }
-    let high = entry(&table, kelvin + 1);
-    TableHeat::JoulesPerKilogramKelvin(on_line(low, high, millikelvin % 1_000))
+    let above = entry(&table, kelvin + 1);
+    TableHeat::JoulesPerKilogramKelvin(on_line(below, above, millikelvin % 1_000))
 }

@@ -28,6 +28,11 @@ module _ {Figures : Type 0} (checks : List Check) {Refused : ℕ → Figures →
   tells-once figures other (answers none told) (refuses refusal first told′) = absurd (none-or-first checks refusal none first)
   tells-once figures other (answers none told) (answers none′ told′) = answered-once figures other told told′
 
+-- a call to which no check applies is answered
+pub none-is-answered : {Figures : Type 0} (checks : List Check) {Refused : ℕ → Figures → Type 0} {Answers : Figures → Type 0} {figures : Figures} → NoneOf checks → Tells checks Refused Answers figures → Answers figures
+none-is-answered checks none (refuses refusal first told) = absurd (none-or-first checks refusal none first)
+none-is-answered checks none (answers none′ given) = given
+
 -- a call that tells 0, which is the number of no check, is answered
 pub zero-is-answered : {Figures : Type 0} (number-of : Figures → ℕ) (checks : List Check) {Refused : ℕ → Figures → Type 0} {Answers : Figures → Type 0} {figures : Figures} → hasNumber 0 checks ≡ false → ((refusal : ℕ) → Refused refusal figures → number-of figures ≡ refusal) → number-of figures ≡ 0 → Tells checks Refused Answers figures → NoneOf checks × Answers figures
 zero-is-answered number-of checks without tells-number is-0 (refuses refusal first told) =

@@ -8,7 +8,8 @@ use Prim.Native.Nat.{ℕ, _≤_, _<_}
 use native.Mathlib.Omega.{arith}
 use lib.ListN.{length, replicate, length-replicate}
 use Rattle.refusals.specs.Checks.{NoneOf, refuses, answers}
-use Rattle.refusals.proofs.Lists.{none-or-first, tells-without, tells-without-between}
+use Rattle.refusals.proofs.Lists.{tells-without, tells-without-between}
+use Rattle.refusals.proofs.Theorems.{none-is-answered}
 use Rattle.books.specs.Layouts.{Layout, slotChecks, Placed, BothOrNeither, SameNumbers}
 use Rattle.books.specs.Bytes.{threeByteNumbers, inBytes}
 use Rattle.books.proofs.Slots.{alike-by-length}
@@ -45,16 +46,12 @@ use Rattle.state.proofs.Sharing.{called-once, shown, one-answer, answer
 -- Every accepted state is answered, and the two roots reported are all the crossings there are, whatever a book holds.
 module _ {fluid : Fluid} {millikelvin pascals : ℕ} {reduced : Reduced} {figures : Figures} (accepted : Accepted fluid millikelvin pascals) (reduces : Reduces fluid millikelvin pascals reduced) (asked : Asked (numberOf fluid) millikelvin pascals figures) where
   answer : Answered (numberOf fluid) millikelvin pascals figures
-  answer = told (without asked)
+  answer = none-is-answered (stateChecks (numberOf fluid) millikelvin pascals) (passes fluid refl millikelvin pascals accepted) (without asked)
     where
       without : Asked (numberOf fluid) millikelvin pascals figures → Replies (numberOf fluid) millikelvin pascals figures
       without (without-book form none replies) = tells-without (stateChecks (numberOf fluid) millikelvin pascals) (formChecks form) none replies
       without (with-book form slot before after none called) =
           tells-without (stateChecks (numberOf fluid) millikelvin pascals) (formChecks form ++ slotChecks inBytes slot (length before)) none (called .replies)
-
-      told : Replies (numberOf fluid) millikelvin pascals figures → Answered (numberOf fluid) millikelvin pascals figures
-      told (refuses refusal first zeros) = absurd (none-or-first (stateChecks (numberOf fluid) millikelvin pascals) refusal (passes fluid refl millikelvin pascals accepted) first)
-      told (answers none answered) = answered
 
   pub accepted-is-answered : figures .number ≡ 0
   accepted-is-answered = ap (λ (f : Figures). f .number) (answer .is-figures)

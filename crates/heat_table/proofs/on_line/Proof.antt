@@ -5,7 +5,7 @@ use Rattle.heat_table.proofs.Lines.{Shares, shares, rounded}
 use Rattle.heat_table.proofs.on_line.Statement.{statement}
 use Rattle.heat_table.proofs.on_line.Tie as tie
 
-fit : (c : tie.Start) → Shares (c .args .low) (c .args .high) (c .args .past)
+fit : (c : tie.Start) → Shares (c .args .below) (c .args .above) (c .args .past)
 fit c = shares (omega arith) (omega arith) (omega arith)
 
 sub-result : tie.Need-sub-result
