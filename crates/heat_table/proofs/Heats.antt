@@ -44,7 +44,7 @@ pub heat-once : {millikelvin heat other : ℕ} → HeatAt millikelvin heat → H
 heat-once p q = line-once (on-every-line p (q .is-past) (not-past q) (q .is-below) (q .is-above)) (q .on-line)
 
 -- the last entry, at the end of the last line
-pub at-last : {heat : ℕ} → Entry last heat → HeatAt (1000 * last) heat
+at-last : {heat : ℕ} → Entry last heat → HeatAt (1000 * last) heat
 at-last {heat} is-last =
     let before = every-kelvin-has-an-entry 999 (omega arith) (omega arith) in
     record { kelvin = 999; past = 1000; is-past = refl; below = before .0; is-below = before .1; above = heat; is-above = is-last; on-line = ends (before .0) heat }

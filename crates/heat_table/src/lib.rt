@@ -26,7 +26,8 @@ fn on_line(below: u16, above: u16, past: u64) -> u64
     (below as u64 * (1_000 - past) + above as u64 * past) / 1_000
 }
 
-// The last entry has no neighbour above it.
+// The line between the entries of the whole kelvins beside the temperature. The last entry, which has no
+// neighbour above it, is answered as it is.
 pub fn ideal_heat_capacity(millikelvin: u64) -> TableHeat
     ensures { λ r. ⌜ Replies millikelvin (figuresOf r) ⌝ }
 {
