@@ -4,11 +4,11 @@ use mathlib.Core.Path.{_≡_, refl, sym, ap, ap₂, _∙_}
 use mathlib.Core.Logic.{_⊎_, inl, inr, _↔_}
 use Prim.Native.Nat.{ℕ, _≤_}
 use native.Mathlib.Nat.{le-refl, le-antisymm}
-use Rattle.refusals.specs.Checks.{NoneOf, FirstOf, refuses, answers}
+use Rattle.refusals.specs.Checks.{NoneOf, FirstOf}
 use Rattle.refusals.specs.declared.Refusal.the-variants.{ScalingOutOfRange}
 use Rattle.refusals.specs.Numbers.{numberOfRefusal}
 use Rattle.refusals.proofs.Lists.{none-behind}
-use Rattle.refusals.proofs.Theorems.{number-determines-refusal, never-zero, First, first-or-none, tells-once, zero-is-answered}
+use Rattle.refusals.proofs.Theorems.{number-determines-refusal, never-zero, First, first-or-none, tells-once, not-answered-is-refused, zero-is-answered}
 use Rattle.cubic.proofs.Theorems.{gas-root-exists}
 use Rattle.cubic.proofs.Attraction.{gas-falls-as-a-grows}
 use Rattle.fluid.specs.Checks.{stateChecks}
@@ -129,11 +129,9 @@ module _ (number millikelvin pascals : ℕ) where
         answered-exactly = (λ is-0. answered is-0 .0, λ allowed. ap numberIn (ends-are-told allowed (scaled-gas-root-exists none lower .1) (scaled-gas-root-exists none upper .1)))
 
       pub refused-band-carries-zeros : (figures .number ≡ 0 → ⊥) → figures ≡ refusedWith (figures .number)
-      refused-band-carries-zeros refused = by-reply replies
-        where
-          by-reply : Replies number millikelvin pascals lower upper figures → figures ≡ refusedWith (figures .number)
-          by-reply (refuses refusal first told) = told ∙ ap refusedWith (sym (ap numberIn told))
-          by-reply (answers none given) = absurd (refused (given .is-answered))
+      refused-band-carries-zeros refused =
+          let told : figures ≡ refusedWith _ = not-answered-is-refused (λ given. refused (given .is-answered)) replies .1 in
+          told ∙ ap refusedWith (sym (ap numberIn told))
 
   -- a band of scalings that lie within those of another lies within that band
   pub narrower-band-lies-within : {lower upper from to : ℕ} (wide narrow : BandFigures) → Replies number millikelvin pascals lower upper wide → Replies number millikelvin pascals from to narrow → wide .number ≡ 0 → narrow .number ≡ 0 → lower ≤ from → to ≤ upper → (wide .«at_upper» ≤ narrow .«at_upper») × (narrow .«at_lower» ≤ wide .«at_lower»)

@@ -25,7 +25,7 @@ module _ {millikelvin : ℕ} where
   tells-heat at =
       answers
       (temperature-passes Hydrogen refl (omega (arith, at .is-past, at .is-below .from-first)) (omega (arith, at .is-past, at .on-line .is-ahead, at .is-above .to-last)))
-      (record { is-answered = refl; is-heat = at })
+      (record { heat = _; is-heat = at; is-figures = refl })
 
   -- as the code finds it: on the line from the whole kelvin below, or at the last
   pub tells-on-line : {below above heat : ℕ} → Entry (millikelvin / 1000) below → Entry (millikelvin / 1000 + 1) above → OnLine below above (millikelvin % 1000) heat → Replies millikelvin (figuresOf (JoulesPerKilogramKelvin heat))

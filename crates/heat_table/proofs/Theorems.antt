@@ -6,9 +6,9 @@ use mathlib.Core.Logic.{_↔_}
 use Prim.Native.Nat.{ℕ, _+_, _*_, _-_, _/_, _%_, _≤_, _<_}
 use native.Mathlib.Omega.{arith}
 use native.Mathlib.Decide.{decLt}
-use Rattle.refusals.specs.Checks.{NoneOf, refuses, answers}
+use Rattle.refusals.specs.Checks.{NoneOf}
 use Rattle.refusals.specs.declared.Refusal.the-variants.{TemperatureTooLow, TemperatureTooHigh}
-use Rattle.refusals.proofs.Theorems.{number-determines-refusal, never-zero, tells-once, none-is-answered, zero-is-answered}
+use Rattle.refusals.proofs.Theorems.{number-determines-refusal, never-zero, tells-once, none-is-answered, not-answered-is-refused, zero-is-answered}
 use Rattle.fluid.specs.declared.choice.Fluid.the-variants.{Hydrogen}
 use Rattle.fluid.specs.Figures.{coldest, hottest}
 use Rattle.fluid.proofs.Accepting.{temperature-passes, temperature-accepted}
@@ -29,9 +29,6 @@ numberIn figures = figures .number
 abbrev heatIn : TableFigures → ℕ
 heatIn figures = figures .heat
 
-made : (number heat : ℕ) → TableFigures
-made number heat = record { number = number; heat = heat }
-
 -- ---- the contract fixes the reply, and every temperature has one
 pub figures-determine-reply : (reply other : TableHeat) → figuresOf reply ≡ figuresOf other → reply ≡ other
 figures-determine-reply (JoulesPerKilogramKelvin heat) (JoulesPerKilogramKelvin other) same = ap JoulesPerKilogramKelvin (ap heatIn same)
@@ -44,12 +41,7 @@ figures-determined reply p q = p ∙ sym q
 
 module _ (millikelvin : ℕ) where
   answered-once : (figures other : TableFigures) → Answered millikelvin figures → Answered millikelvin other → figures ≡ other
-  unfolding made
-  answered-once figures other p q =
-      let same-number : figures .number ≡ other .number = p .is-answered ∙ sym (q .is-answered) in
-      let same-heat : figures .heat ≡ other .heat = heat-once (p .is-heat) (q .is-heat) in
-      let fields : made (figures .number) (figures .heat) ≡ made (other .number) (other .heat) = cc in
-      fields
+  answered-once figures other p q = p .is-figures ∙ ap answeredWith (heat-once (p .is-heat) (q .is-heat)) ∙ sym (q .is-figures)
 
   pub told-once : (figures other : TableFigures) → Replies millikelvin figures → Replies millikelvin other → figures ≡ other
   told-once = tells-once (hydrogenChecks millikelvin) (λ refusal figures other p q. p ∙ sym q) answered-once
@@ -86,17 +78,13 @@ module _ {millikelvin : ℕ} {figures : TableFigures} (replies : Replies millike
 
   -- refused exactly out of the range of hydrogen's states
   pub answered-exactly : (figures .number ≡ 0) ↔ ((coldest Hydrogen ≤ millikelvin) × (millikelvin ≤ hottest))
-  answered-exactly = (λ is-0. temperature-accepted Hydrogen refl (answered is-0 .0), λ inside. in-range (inside .0) (inside .1) .is-answered)
+  answered-exactly = (λ is-0. temperature-accepted Hydrogen refl (answered is-0 .0), λ inside. ap numberIn (in-range (inside .0) (inside .1) .is-figures))
 
   -- between the entries of any two neighbours that have it between them
   pub between-neighbours : {kelvin below above : ℕ} → 1000 * kelvin ≤ millikelvin → millikelvin ≤ 1000 * (kelvin + 1) → Entry kelvin below → Entry (kelvin + 1) above → Between below above (figures .heat)
   between-neighbours {kelvin} from to is-below is-above =
-      let at = in-range (omega (arith, is-below .from-first)) (omega (arith, is-above .to-last)) .is-heat in
-      lies-between (on-every-line at {past = millikelvin - 1000 * kelvin} (omega arith) (omega arith) is-below is-above)
+      let told = in-range (omega (arith, is-below .from-first)) (omega (arith, is-above .to-last)) in
+      rw (ap heatIn (told .is-figures)) (lies-between (on-every-line (told .is-heat) {past = millikelvin - 1000 * kelvin} (omega arith) (omega arith) is-below is-above))
 
   pub refused-carries-zero : (figures .number ≡ 0 → ⊥) → figures .heat ≡ 0
-  refused-carries-zero refused = by-reply replies
-    where
-      by-reply : Replies millikelvin figures → figures .heat ≡ 0
-      by-reply (answers none told) = absurd (refused (told .is-answered))
-      by-reply (refuses refusal first told) = ap heatIn told
+  refused-carries-zero refused = ap heatIn (not-answered-is-refused (λ given. refused (ap numberIn (given .is-figures))) replies .1)

@@ -30,8 +30,9 @@ abbrev pub NumberAndZero : (refusal : ℕ) → TableFigures → Type 0
 NumberAndZero refusal figures = figures ≡ refusedWith refusal
 
 pub record Answered (millikelvin : ℕ) (figures : TableFigures) : Type 0 where
-  pub is-answered : figures .number ≡ 0
-  pub is-heat : HeatAt millikelvin (figures .heat)
+  pub heat : ℕ
+  pub is-heat : HeatAt millikelvin heat
+  pub is-figures : figures ≡ answeredWith heat
 
 abbrev pub Replies : (millikelvin : ℕ) → TableFigures → Type 0
 Replies millikelvin = Tells (hydrogenChecks millikelvin) NumberAndZero (Answered millikelvin)

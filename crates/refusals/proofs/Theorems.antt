@@ -33,6 +33,11 @@ pub none-is-answered : {Figures : Type 0} (checks : List Check) {Refused : ℕ �
 none-is-answered checks none (refuses refusal first told) = absurd (none-or-first checks refusal none first)
 none-is-answered checks none (answers none′ given) = given
 
+-- and one that is not answered is refused
+pub not-answered-is-refused : {Figures : Type 0} {checks : List Check} {Refused : ℕ → Figures → Type 0} {Answers : Figures → Type 0} {figures : Figures} → (Answers figures → ⊥) → Tells checks Refused Answers figures → (refusal : ℕ) × Refused refusal figures
+not-answered-is-refused not-answered (refuses refusal first told) = (refusal, told)
+not-answered-is-refused not-answered (answers none given) = absurd (not-answered given)
+
 -- a call that tells 0, which is the number of no check, is answered
 pub zero-is-answered : {Figures : Type 0} (number-of : Figures → ℕ) (checks : List Check) {Refused : ℕ → Figures → Type 0} {Answers : Figures → Type 0} {figures : Figures} → hasNumber 0 checks ≡ false → ((refusal : ℕ) → Refused refusal figures → number-of figures ≡ refusal) → number-of figures ≡ 0 → Tells checks Refused Answers figures → NoneOf checks × Answers figures
 zero-is-answered number-of checks without tells-number is-0 (refuses refusal first told) =

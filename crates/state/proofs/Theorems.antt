@@ -7,9 +7,9 @@ use mathlib.Core.List.{List, [], _∷_, _++_}
 use Prim.Native.Nat.{ℕ, _≤_, _<_}
 use native.Mathlib.Omega.{arith}
 use lib.ListN.{length, replicate, length-replicate}
-use Rattle.refusals.specs.Checks.{NoneOf, refuses, answers}
+use Rattle.refusals.specs.Checks.{NoneOf}
 use Rattle.refusals.proofs.Lists.{tells-without, tells-without-between}
-use Rattle.refusals.proofs.Theorems.{none-is-answered}
+use Rattle.refusals.proofs.Theorems.{none-is-answered, not-answered-is-refused}
 use Rattle.books.specs.Layouts.{Layout, slotChecks, Placed, BothOrNeither, SameNumbers}
 use Rattle.books.specs.Bytes.{threeByteNumbers, inBytes}
 use Rattle.books.proofs.Slots.{alike-by-length}
@@ -123,11 +123,8 @@ module _ (number millikelvin pascals : ℕ) where
 -- ---- with a book
 -- a refused call leaves the book as it was, however it is laid out
 pub refused-changes-nothing : {layout : Layout} {form : Form} {number millikelvin pascals slot : ℕ} {book after : List ℕ} {figures : Figures} → (figures .number ≡ 0 → ⊥) → CalledAs layout form number millikelvin pascals slot book figures after → after ≡ book
-refused-changes-nothing {layout} {form} {number} {millikelvin} {pascals} {slot} {book} {after} {figures} refused called = by-reply (called .replies)
-  where
-    by-reply : Told number millikelvin pascals (formChecks form ++ slotChecks layout slot (length book)) figures → after ≡ book
-    by-reply (refuses refusal first zeros) = called .leaves ∙ ap (bookAfter layout book slot) zeros
-    by-reply (answers none answered) = absurd (refused (ap (λ (f : Figures). f .number) (answered .is-figures)))
+refused-changes-nothing {layout} {slot = slot} {book = book} refused called =
+    called .leaves ∙ ap (bookAfter layout book slot) (not-answered-is-refused (λ answered. refused (ap (λ (f : Figures). f .number) (answered .is-figures))) (called .replies) .1)
 
 -- two calls that keep what `ask_with_book` or `ask_side_with_book` promises give one reply and leave one book
 module _ (number millikelvin pascals : ℕ) where

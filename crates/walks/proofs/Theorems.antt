@@ -6,10 +6,10 @@ use Prim.Native.Nat.{ℕ, _+_, _-_, _≤_, _<_}
 use native.Mathlib.Omega.{arith}
 use native.Mathlib.Decide.{decLe}
 use borrow.Author.Tests.{ne-eqb}
-use Rattle.refusals.specs.Checks.{NoneOf, FirstOf, refuses, answers}
+use Rattle.refusals.specs.Checks.{NoneOf, FirstOf}
 use Rattle.refusals.specs.declared.Refusal.the-variants.{WalkCutShort}
 use Rattle.refusals.specs.Numbers.{numberOfRefusal}
-use Rattle.refusals.proofs.Theorems.{number-determines-refusal, never-zero, First, first-or-none, tells-once, zero-is-answered}
+use Rattle.refusals.proofs.Theorems.{number-determines-refusal, never-zero, First, first-or-none, tells-once, not-answered-is-refused, zero-is-answered}
 use Rattle.cubic.specs.Cubic.{N}
 use Rattle.cubic.proofs.Theorems.{gas-root-exists}
 use Rattle.slow_engine.specs.Promise.{way}
@@ -114,11 +114,9 @@ module _ (number millikelvin pascals : ℕ) where
 
     -- and the limit is all that a refusal brings beside its number
     pub refused-walk-carries-zeros : (figures .number ≡ 0 → ⊥) → (figures .«gas_root» ≡ 0) × ((figures .number ≡ 11 → ⊥) → figures .values ≡ 0)
-    refused-walk-carries-zeros refused = by-reply replies
-      where
-        by-reply : Replies number millikelvin pascals limit figures → (figures .«gas_root» ≡ 0) × ((figures .number ≡ 11 → ⊥) → figures .values ≡ 0)
-        by-reply (refuses refusal first told) = (ap rootIn told, λ other. ap valuesIn told ∙ rw (ne-eqb refusal 11 (λ is-11. other (ap numberIn told ∙ is-11))) refl)
-        by-reply (answers none given) = absurd (refused (ap numberIn (given .is-figures)))
+    refused-walk-carries-zeros refused =
+        let told = not-answered-is-refused (λ given. refused (ap numberIn (given .is-figures))) replies in
+        (ap rootIn (told .1), λ other. ap valuesIn (told .1) ∙ rw (ne-eqb (told .0) 11 (λ is-11. other (ap numberIn (told .1) ∙ is-11))) refl)
 
   -- and every walk has one
   pub every-walk-has-a-reply : (limit : ℕ) → (reply : WalkReply) × Replies number millikelvin pascals limit (figuresOf reply)
