@@ -27,9 +27,11 @@ extern "C" {
 #define WOOLYARD_HEAT_OUT_OF_RANGE 5      /* heat-capacity temperature not a number in 14 to 1000 K */
 #define WOOLYARD_SHEET_MALFORMED 6        /* sheet badly formed */
 #define WOOLYARD_SHEET_TOO_LONG 7         /* sheet longer than 65,536 bytes */
+#define WOOLYARD_LENGTHS_DIFFER 8         /* lists of claims of unequal lengths */
 #define WOOLYARD_WALK_CUT_SHORT 11        /* the limit of values is below what the walk needs */
 #define WOOLYARD_NO_SUCH_SIDE 12          /* side is neither 0 nor 1 */
 #define WOOLYARD_SCALING_OUT_OF_RANGE 13  /* a scaling below 500 or above 1500 thousandths, or the lower one not first */
+#define WOOLYARD_ROOT_DIFFERS 14          /* the root that is claimed is not the side's */
 #define WOOLYARD_DENSITY_OUT_OF_RANGE 15  /* reduced density below 100 or above 3000 thousandths */
 #define WOOLYARD_NO_SUCH_LINE 16          /* no state line of the number asked for */
 #define WOOLYARD_TEMPERATURE_TOO_LOW 21   /* below 14,000 mK for parahydrogen, 56,000 mK for oxygen, 64,000 mK for nitrogen */
@@ -119,6 +121,17 @@ uint64_t woolyard_walk(uint64_t fluid, uint64_t millikelvin, uint64_t pascals, u
  *   roots[0]  the gas root at the lower scaling; 0 where refused
  *   roots[1]  the gas root at the upper scaling, which is not the larger one; 0 where refused */
 uint64_t woolyard_band(uint64_t fluid, uint64_t millikelvin, uint64_t pascals, uint64_t lower, uint64_t upper, uint64_t roots[2]);
+
+/* Checks roots that other programs gave: a list of claims, each a fluid, a temperature in millikelvin, a pressure in pascals, a side and a
+ * root, as five lists. Claim k, counted from 0, has number k of each list. A claim stands exactly if its state is accepted and the root is that
+ * side's own, which is the root that woolyard_side answers. The lists may hold any numbers, and are only read.
+ * Answers 0 where every claim stands, as all claims of empty lists do; 8 where the lengths of the lists are not all equal, and then no claim is
+ * looked at; and otherwise the refusal of the first claim that does not stand, which is 1, 21, 22, 31, 32, 12 or 14, the first in this order
+ * that applies. No claim behind that one is looked at.
+ *   *claim  the number of the claim that is refused; 0 where all stand or the lengths differ */
+uint64_t woolyard_claims(const uint64_t *fluids, size_t fluids_length, const uint64_t *millikelvin, size_t millikelvin_length,
+                         const uint64_t *pascals, size_t pascals_length, const uint64_t *sides, size_t sides_length, const uint64_t *roots,
+                         size_t roots_length, uint64_t *claim);
 
 /* Hydrogen's ideal heat capacity at a temperature in kelvin, any double at all: kJ/(kg K), equal bit for bit to Table 4 evaluated from A5
  * down, each operation rounded once. Answers 0, or 5 and leaves *heat alone: below 14, above 1000, an infinity or a NaN. */

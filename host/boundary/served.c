@@ -12,9 +12,9 @@ long write(int file, const void *bytes, unsigned long length);
  * of the function's. */
 enum { FUNCTION, FIRST, SECOND, THIRD, FOURTH, FIFTH, LENGTH, LENT_BYTES, PLACES, LENT = PLACES + 5 };
 
-enum { STATE, STATE_WITH_BOOK, SIDE, SIDE_WITH_BOOK, WALK, BAND, HEAT, HEAT_TABLE, VISCOSITY, SHEET, SHEET_LINE };
+enum { STATE, STATE_WITH_BOOK, SIDE, SIDE_WITH_BOOK, WALK, BAND, CLAIMS, HEAT, HEAT_TABLE, VISCOSITY, SHEET, SHEET_LINE };
 
-#define WORDS 131072
+#define WORDS 524288
 
 static union {
     uint64_t words[WORDS];
@@ -30,6 +30,15 @@ static uint64_t heat(uint64_t kelvin_pattern, uint64_t *place)
     uint64_t number = woolyard_heat(kelvin.number, &answer.number);
     *place = answer.pattern;
     return number;
+}
+
+/* Five lists are lent, with room for as many numbers each, one behind the other. The arguments are their lengths. */
+static uint64_t claims(uint64_t *call)
+{
+    const uint64_t *lists = call + LENT;
+    size_t room = call[LENT_BYTES] / (5 * sizeof *lists);
+    return woolyard_claims(lists, call[FIRST], lists + room, call[SECOND], lists + 2 * room, call[THIRD], lists + 3 * room,
+                           call[FOURTH], lists + 4 * room, call[FIFTH], call + PLACES);
 }
 
 /* Makes the call that begins at this word. */
@@ -52,6 +61,8 @@ static uint64_t make(size_t word)
         return woolyard_walk(call[FIRST], call[SECOND], call[THIRD], call[FOURTH], call + PLACES);
     case BAND:
         return woolyard_band(call[FIRST], call[SECOND], call[THIRD], call[FOURTH], call[FIFTH], call + PLACES);
+    case CLAIMS:
+        return claims(call);
     case HEAT:
         return heat(call[FIRST], call + PLACES);
     case HEAT_TABLE:

@@ -1,5 +1,5 @@
-/* The header in use: a state, one side of it, the state with a book, another fluid, a walk, a band, refusals, the heat capacity, the heat
- * table, the excess viscosity factor, a sheet and its lines, and a faulty sheet. */
+/* The header in use: a state, one side of it, the state with a book, another fluid, a walk, a band, claims, refusals, the heat capacity, the
+ * heat table, the excess viscosity factor, a sheet and its lines, and a faulty sheet. */
 #include "woolyard.h"
 #include <inttypes.h>
 #include <stdio.h>
@@ -54,6 +54,15 @@ int main(void)
            roots[WOOLYARD_BAND_LOWER], roots[WOOLYARD_BAND_UPPER]);
     number = woolyard_band(WOOLYARD_OXYGEN, 120000, 500000, 1050, 950, roots);
     printf("with 1.050 to 0.950 of it: reply %" PRIu64 "\n", number);
+
+    static const uint64_t fluids[] = { WOOLYARD_OXYGEN, WOOLYARD_OXYGEN }, millikelvin[] = { 120000, 120000 },
+                          pascals[] = { 500000, 500000 }, sides[] = { WOOLYARD_GAS, WOOLYARD_DENSE };
+    static const uint64_t right[] = { 92696, 1699 }, wrong[] = { 92696, 92696 };
+    uint64_t claim;
+    number = woolyard_claims(fluids, 2, millikelvin, 2, pascals, 2, sides, 2, right, 2, &claim);
+    printf("its roots claimed, 92696 for gas and 1699 for dense: reply %" PRIu64 "\n", number);
+    number = woolyard_claims(fluids, 2, millikelvin, 2, pascals, 2, sides, 2, wrong, 2, &claim);
+    printf("with 92696 claimed for both: reply %" PRIu64 ", claim %" PRIu64 "\n", number, claim);
 
     number = woolyard_state(WOOLYARD_OXYGEN, 55999, 500000, figures);
     printf("oxygen at 55999 mK: reply %" PRIu64 "\n", number);

@@ -12,18 +12,19 @@ OXYGEN, NITROGEN, GAS, DENSE, KIND_SPLIT, BOOK_BYTES, WALK_ENOUGH = 1, 2, 0, 1, 
 
 woolyard = ctypes.CDLL(sys.argv[1])
 Figures, SideFigures, Walked, Roots = c_uint64 * 5, c_uint64 * 2, c_uint64 * 2, c_uint64 * 2
-Three, Book = c_uint64 * 3, c_uint8 * BOOK_BYTES
+Two, Three, Book = c_uint64 * 2, c_uint64 * 3, c_uint8 * BOOK_BYTES
 woolyard.woolyard_state.argtypes = [c_uint64, c_uint64, c_uint64, Figures]
 woolyard.woolyard_state_with_book.argtypes = [c_uint64, c_uint64, c_uint64, c_uint64, Book, c_size_t, Figures]
 woolyard.woolyard_side.argtypes = [c_uint64, c_uint64, c_uint64, c_uint64, SideFigures]
 woolyard.woolyard_walk.argtypes = [c_uint64, c_uint64, c_uint64, c_uint64, Walked]
 woolyard.woolyard_band.argtypes = [c_uint64, c_uint64, c_uint64, c_uint64, c_uint64, Roots]
+woolyard.woolyard_claims.argtypes = [Two, c_size_t] * 5 + [ctypes.POINTER(c_uint64)]
 woolyard.woolyard_heat.argtypes = [c_double, ctypes.POINTER(c_double)]
 woolyard.woolyard_heat_table.argtypes = [c_uint64, ctypes.POINTER(c_uint64)]
 woolyard.woolyard_viscosity.argtypes = [c_uint64, ctypes.POINTER(c_uint64)]
 woolyard.woolyard_sheet.argtypes = [ctypes.c_char_p, c_size_t, Three]
 woolyard.woolyard_sheet_line.argtypes = [ctypes.c_char_p, c_size_t, c_uint64, Three]
-for name in ("state", "state_with_book", "side", "walk", "band", "heat", "heat_table", "viscosity", "sheet", "sheet_line"):
+for name in ("state", "state_with_book", "side", "walk", "band", "claims", "heat", "heat_table", "viscosity", "sheet", "sheet_line"):
     getattr(woolyard, f"woolyard_{name}").restype = c_uint64
 
 
@@ -76,6 +77,13 @@ lower_root, upper_root = roots
 print(f"with 0.950 to 1.050 of its attraction: reply {number}, gas roots {lower_root} to {upper_root}")
 number = woolyard.woolyard_band(OXYGEN, 120000, 500000, 1050, 950, roots)
 print(f"with 1.050 to 0.950 of it: reply {number}")
+
+claim = c_uint64()
+lists = [(Two(OXYGEN, OXYGEN), 2), (Two(120000, 120000), 2), (Two(500000, 500000), 2), (Two(GAS, DENSE), 2)]
+number = woolyard.woolyard_claims(*sum(lists, ()), Two(92696, 1699), 2, byref(claim))
+print(f"its roots claimed, 92696 for gas and 1699 for dense: reply {number}")
+number = woolyard.woolyard_claims(*sum(lists, ()), Two(92696, 92696), 2, byref(claim))
+print(f"with 92696 claimed for both: reply {number}, claim {claim.value}")
 
 number = woolyard.woolyard_state(OXYGEN, 55999, 500000, figures)
 print(f"oxygen at 55999 mK: reply {number}")

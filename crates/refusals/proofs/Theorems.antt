@@ -8,7 +8,7 @@ use Prim.Native.Nat.{ℕ}
 use native.Mathlib.Omega.{arith}
 use lib.Dec.{eqb}
 use Rattle.refusals.specs.declared.Refusal.{Refusal}
-use Rattle.refusals.specs.declared.Refusal.the-variants.{NoSuchFluid, TemperatureTooLow, TemperatureTooHigh, PressureTooLow, PressureTooHigh, NoSuchSide, NoSuchSlot, WalkCutShort, ScalingOutOfRange}
+use Rattle.refusals.specs.declared.Refusal.the-variants.{NoSuchFluid, TemperatureTooLow, TemperatureTooHigh, PressureTooLow, PressureTooHigh, NoSuchSide, NoSuchSlot, WalkCutShort, ScalingOutOfRange, RootDiffers}
 use Rattle.refusals.specs.Numbers.{numberOfRefusal}
 use Rattle.refusals.proofs.Lists.{none-or-first, hasNumber, number-on-list}
 use Rattle.refusals.specs.Checks.{Check, NoneOf, FirstOf, Tells, refuses, answers, Outcome, with-value, with-number, Gives}
@@ -77,12 +77,12 @@ first-or-none (check ∷ checks) decided = by-test (decided .0 .decide) (first-o
     by-test (no f) (inr none) = inr (f, none)
 
 -- the refusal that has a number, among some
-find : ℕ → List Refusal → Refusal
+unfoldable pub find : ℕ → List Refusal → Refusal
 find number [] = NoSuchFluid
 find number (refusal ∷ refusals) = cond (eqb (numberOfRefusal refusal) number) refusal (find number refusals)
 
-pub refusalOf : ℕ → Refusal
-refusalOf number = find number (NoSuchFluid ∷ TemperatureTooLow ∷ TemperatureTooHigh ∷ PressureTooLow ∷ PressureTooHigh ∷ NoSuchSide ∷ NoSuchSlot ∷ WalkCutShort ∷ ScalingOutOfRange ∷ [])
+unfoldable pub refusalOf : ℕ → Refusal
+refusalOf number = find number (NoSuchFluid ∷ TemperatureTooLow ∷ TemperatureTooHigh ∷ PressureTooLow ∷ PressureTooHigh ∷ NoSuchSide ∷ NoSuchSlot ∷ WalkCutShort ∷ ScalingOutOfRange ∷ RootDiffers ∷ [])
 
 pub refusal-of-number : (refusal : Refusal) → refusalOf (numberOfRefusal refusal) ≡ refusal
 unfolding refusalOf find
@@ -95,17 +95,20 @@ refusal-of-number NoSuchSide = refl
 refusal-of-number NoSuchSlot = refl
 refusal-of-number WalkCutShort = refl
 refusal-of-number ScalingOutOfRange = refl
+refusal-of-number RootDiffers = refl
 
 pub number-determines-refusal : (refusal other : Refusal) → numberOfRefusal refusal ≡ numberOfRefusal other → refusal ≡ other
 number-determines-refusal refusal other same = sym (refusal-of-number refusal) ∙ ap refusalOf same ∙ refusal-of-number other
 
--- no refusal has the number of an answered call
+-- a number that the way back leads to a refusal of another number is that of none,
+pub no-refusal-has : (number : ℕ) → (numberOfRefusal (refusalOf number) ≡ number → ⊥) → (refusal : Refusal) → numberOfRefusal refusal ≡ number → ⊥
+no-refusal-has number unlike refusal is-number =
+    unlike (ap numberOfRefusal (sym (ap refusalOf is-number) ∙ refusal-of-number refusal) ∙ is-number)
+
+-- as that of an answered call is
 pub never-zero : (refusal : Refusal) → numberOfRefusal refusal ≡ 0 → ⊥
 unfolding refusalOf find
-never-zero refusal is-0 =
-    let first : refusal ≡ NoSuchFluid = sym (refusal-of-number refusal) ∙ ap refusalOf is-0 in
-    let is-1 : numberOfRefusal refusal ≡ 1 = ap numberOfRefusal first in
-    omega arith
+never-zero = no-refusal-has 0 (λ same. omega arith)
 
 -- two answers that keep what `number` promises are equal
 pub number-determined : (refusal : Refusal) {number other : ℕ} → number ≡ numberOfRefusal refusal → other ≡ numberOfRefusal refusal → number ≡ other

@@ -1,7 +1,7 @@
--- Document 01, "Replies", and document 02, C-12, C-14, C-18 and C-22: the number of each refusal of a state.
+-- Document 01, "Replies", and document 02, C-12, C-14, C-18, C-22 and C-23: the number of each refusal of a state.
 use Prim.Native.Nat.{ℕ}
 use Rattle.refusals.specs.declared.Refusal.{Refusal}
-use Rattle.refusals.specs.declared.Refusal.the-variants.{NoSuchFluid, TemperatureTooLow, TemperatureTooHigh, PressureTooLow, PressureTooHigh, NoSuchSide, NoSuchSlot, WalkCutShort, ScalingOutOfRange}
+use Rattle.refusals.specs.declared.Refusal.the-variants.{NoSuchFluid, TemperatureTooLow, TemperatureTooHigh, PressureTooLow, PressureTooHigh, NoSuchSide, NoSuchSlot, WalkCutShort, ScalingOutOfRange, RootDiffers}
 
 abbrev pub numberOfRefusal : Refusal → ℕ
 numberOfRefusal NoSuchFluid = 1
@@ -13,3 +13,4 @@ numberOfRefusal NoSuchSide = 12
 numberOfRefusal NoSuchSlot = 4
 numberOfRefusal WalkCutShort = 11
 numberOfRefusal ScalingOutOfRange = 13
+numberOfRefusal RootDiffers = 14

@@ -13,6 +13,7 @@ pub enum Refusal {
     NoSuchSlot,
     WalkCutShort,
     ScalingOutOfRange,
+    RootDiffers,
 }
 
 impl Refusal {
@@ -29,6 +30,7 @@ impl Refusal {
             Refusal::NoSuchSlot => 4,
             Refusal::WalkCutShort => 11,
             Refusal::ScalingOutOfRange => 13,
+            Refusal::RootDiffers => 14,
         }
     }
 }

@@ -60,6 +60,10 @@ pub refused-side-carries-zeros : (reply : SideReply) → (sideFiguresOf reply .n
 refused-side-carries-zeros (Side.Answered root density) refused = absurd (refused refl)
 refused-side-carries-zeros (Side.Refused refusal) refused = refl
 
+-- two figures that keep what `for_side` promises are equal
+pub figure-for-side-determined : (side of-gas of-dense : ℕ) {figure other : ℕ} → figure ≡ forSide side of-gas of-dense → other ≡ forSide side of-gas of-dense → figure ≡ other
+figure-for-side-determined side of-gas of-dense p q = p ∙ sym q
+
 -- a ONE reply has the same for both sides
 pub one-for-both-sides : (reply : Reply) → figuresOf reply .kind ≡ numberOfKind ONE → figuresFor gas (figuresOf reply) ≡ figuresFor dense (figuresOf reply)
 one-for-both-sides (One root grams) is-one = refl

@@ -8,6 +8,7 @@ pub use sides::DENSE;
 pub use sides::GAS;
 pub use sides::SideFigures;
 pub use sides::SideReply;
+pub use sides::for_side;
 
 // Roots are in hundred-thousandths, densities in grams per cubic metre. The kind is the case: a state
 // whose two roots are equal is One, and has one density.

@@ -26,7 +26,7 @@ use Rattle.calls.specs.Checks.{formChecks}
 use Rattle.calls.specs.Promise.{FindsWithBook}
 use Rattle.replies.specs.declared.Figures.{Figures}
 use Rattle.replies.specs.Figures.{answeredWith, refusedWith}
-use Rattle.replies.specs.Sides.{gas, forSide, SideOf}
+use Rattle.replies.specs.Sides.{forSide, SideOf}
 use Rattle.state.specs.Replies.{Told}
 use Rattle.state.specs.Book.{bookAfter, CalledAs}
 use Rattle.state.specs.Inside.{Weighty, Reported}
@@ -42,11 +42,6 @@ module _ {fluid : Fluid} {millikelvin pascals : ℕ} {reduced : Reduced} (accept
         crossing-from-b _ _ z crossing,
         crossing-on-grid _ _ z crossing,
       )
-
--- a side that is not gas has the dense one of two figures
-pub other-for : (side of-gas of-dense : ℕ) → (side ≡ gas → ⊥) → of-dense ≡ forSide side of-gas of-dense
-other-for zero of-gas of-dense other = absurd (other refl)
-other-for (suc side) of-gas of-dense other = refl
 
 -- the root for a side is one of the two, and its density the one of theirs for that side
 weighed-for : (weighs : ℕ → ℕ) (side of-gas of-dense : ℕ) → weighs (forSide side of-gas of-dense) ≡ forSide side (weighs of-gas) (weighs of-dense)

@@ -4,13 +4,13 @@ ghost use mathlib.Core.Path.{_≡_};
 ghost use Rattle.densities.specs.Promise.{Weighable};
 ghost use Rattle.densities.specs.Densities.{density};
 ghost use Rattle.replies.specs.Figures.{figuresOf};
-ghost use Rattle.replies.specs.Sides.{forSide, SideOf, sideFiguresOf};
+ghost use Rattle.replies.specs.Sides.{SideOf, sideFiguresOf};
 ghost use Rattle.state.specs.Inside.{Weighty, Reported};
 use densities::Density;
 use fluid::Fluid;
-use replies::GAS;
 use replies::Reply;
 use replies::SideReply;
+use replies::for_side;
 
 // The roots of an accepted state are within a density's bounds, so the last arm is never met.
 fn grams(fluid: Fluid, millikelvin: u64, pascals: u64, root: u64) -> u64
@@ -42,17 +42,7 @@ pub(crate) fn answer(fluid: Fluid, millikelvin: u64, pascals: u64, gas: u64, den
     }
 }
 
-// A side that is neither never comes here.
-fn root_for(side: u64, gas: u64, dense: u64) -> u64
-    ensures { λ r. ⌜ r ≡ forSide side gas dense ⌝ }
-{
-    if side == GAS {
-        return gas;
-    }
-    dense
-}
-
-// One density is worked out, that of the side's own root.
+// A side that is neither never comes here. One density is worked out, that of the side's own root.
 pub(crate) fn answer_side(
     fluid: Fluid,
     millikelvin: u64,
@@ -64,7 +54,7 @@ pub(crate) fn answer_side(
     requires { ⌜ Weighty millikelvin pascals gas dense ⌝ }
     ensures { λ r. ⌜ SideOf side (Reported fluid millikelvin pascals gas dense) (sideFiguresOf r) ⌝ }
 {
-    let root = root_for(side, gas, dense);
+    let root = for_side(side, gas, dense);
     let density = grams(fluid, millikelvin, pascals, root);
     SideReply::Answered { root, density }
 }

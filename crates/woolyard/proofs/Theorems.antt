@@ -1,6 +1,7 @@
 -- What is proved of the boundary, beside its contracts: each fixes the number and every value that its caller lent, and nothing that a book holds
 -- changes either. Assumes nothing.
 use mathlib.Core.Path.{_≡_, sym, ap, _∙_}
+use mathlib.Core.Logic.{_⊎_}
 use mathlib.Core.List.{List, _∷_, []}
 use Prim.Native.Nat.{ℕ}
 use lib.Ieee.{Float}
@@ -20,6 +21,9 @@ use Rattle.bands.specs.declared.replies.BandFigures.{BandFigures}
 use Rattle.bands.proofs.Theorems as bands
 use Rattle.heat.specs.Replies.{numberOf}
 use Rattle.heat.proofs.Theorems as heat
+use Rattle.claims.specs.declared.reply.ClaimsFigures.{ClaimsFigures}
+use Rattle.claims.specs.Lists.{FiveLists}
+use Rattle.claims.proofs.Theorems as claims
 use Rattle.heat_table.specs.declared.replies.TableFigures.{TableFigures}
 use Rattle.heat_table.proofs.Theorems as heat-table
 use Rattle.viscosity.specs.declared.replies.ExcessFigures.{ExcessFigures}
@@ -34,6 +38,7 @@ use Rattle.woolyard.specs.Sides.{twoOf, SideLaid, SideAnswers, SideBookA
 use Rattle.woolyard.specs.Walks.{walkedOf, WalkAnswers}
 use Rattle.woolyard.specs.Bands.{rootsOf, BandAnswers}
 use Rattle.woolyard.specs.Heats.{bitsAfter, HeatAnswers}
+use Rattle.woolyard.specs.Claims.{ClaimsAnswers}
 use Rattle.woolyard.specs.HeatTables.{HeatTableAnswers}
 use Rattle.woolyard.specs.Viscosities.{ViscosityAnswers}
 use Rattle.woolyard.specs.Sheets.{readingOf, SheetAnswers, stateOf, LineAnswers}
@@ -124,6 +129,16 @@ module _ (fluid millikelvin pascals lower upper : ℕ) where
   pub refused-band-lays-zeros : {number : ℕ} {roots : List ℕ} → BandAnswers fluid millikelvin pascals lower upper number roots → (number ≡ 0 → ⊥) → roots ≡ 0 ∷ 0 ∷ []
   refused-band-lays-zeros p refused =
       p .is-roots ∙ ap rootsOf (bands.refused-band-carries-zeros fluid millikelvin pascals lower upper (p .figures) (p .replies) (λ answered. refused (p .is-number ∙ answered)))
+
+-- ---- claims
+module _ {lists : FiveLists} where
+  pub claims-determined : {number number′ claim claim′ : ℕ} → ClaimsAnswers lists number claim → ClaimsAnswers lists number′ claim′ → (number ≡ number′) × (claim ≡ claim′)
+  claims-determined p q =
+      let same = claims.told-once lists _ _ p q in
+      (ap (λ (f : ClaimsFigures). f .number) same, ap (λ (f : ClaimsFigures). f .claim) same)
+
+  pub no-claim-is-zero : {number claim : ℕ} → ClaimsAnswers lists number claim → (number ≡ 0) ⊎ (number ≡ 8) → claim ≡ 0
+  no-claim-is-zero = claims.no-claim-is-zero
 
 -- ---- the heat capacity
 pub heat-determined : (kelvin : Float) (before number number′ after after′ : ℕ) → HeatAnswers kelvin before number after → HeatAnswers kelvin before number′ after′ → (number ≡ number′) × (after ≡ after′)

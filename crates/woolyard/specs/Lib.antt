@@ -3,6 +3,7 @@ pub mod States
 pub mod Sides
 pub mod Walks
 pub mod Bands
+pub mod Claims
 pub mod Heats
 pub mod HeatTables
 pub mod Viscosities

@@ -7,6 +7,8 @@ ghost use Rattle.woolyard.specs.States.{StateAnswers, BookAnswers};
 ghost use Rattle.woolyard.specs.Sides.{SideAnswers, SideBookAnswers};
 ghost use Rattle.woolyard.specs.Walks.{WalkAnswers};
 ghost use Rattle.woolyard.specs.Bands.{BandAnswers};
+ghost use Rattle.claims.specs.Lists.{listsOf};
+ghost use Rattle.woolyard.specs.Claims.{ClaimsAnswers};
 ghost use Rattle.woolyard.specs.Heats.{HeatAnswers};
 ghost use Rattle.woolyard.specs.HeatTables.{HeatTableAnswers};
 ghost use Rattle.woolyard.specs.Viscosities.{ViscosityAnswers};
@@ -110,6 +112,25 @@ pub extern "C" fn woolyard_band(
     let reply = state::band(fluid, millikelvin, pascals, lower, upper);
     let told = reply.figures();
     *roots = [told.at_lower, told.at_upper];
+    told.number
+}
+
+// Roots that other programs gave, checked: the caller's place gets the number of the first claim that is
+// refused.
+#[no_mangle]
+pub extern "C" fn woolyard_claims(
+    fluids: &[u64],
+    millikelvin: &[u64],
+    pascals: &[u64],
+    sides: &[u64],
+    roots: &[u64],
+    claim: &mut u64,
+) -> u64
+    ensures { λ r. ⌜ ClaimsAnswers (listsOf (now (fluids .entry)) (now (millikelvin .entry)) (now (pascals .entry)) (now (sides .entry)) (now (roots .entry))) r (now (claim .exit)) ⌝ }
+{
+    let reply = claims::check(fluids, millikelvin, pascals, sides, roots);
+    let told = reply.figures();
+    *claim = told.claim;
     told.number
 }
 

@@ -27,6 +27,9 @@ impl Display for Report {
         writeln!(out, "\n## Bands\n")?;
         self.write_about_bands(out)?;
         self.write_bands(out)?;
+        writeln!(out, "\n## Claims\n")?;
+        write_about_claims(out)?;
+        self.write_claims(out)?;
         writeln!(out, "\n## Program `sheet`\n")?;
         self.write_programs(out)?;
         write_about_programs(out)?;
@@ -100,8 +103,8 @@ the dense root differ.
 - Pressure: {lowest} to {highest} Pa, every decade as likely as any other.
 - Temperature: in about half of the states anywhere in the fluid's range,
   {coldest}, each to {hottest} mK. In the others
-  it is at most three times the coldest, {three_times} mK: SPLIT states lie below the critical
-  temperature, which is under that.
+  it is at most three times the coldest, {three_times} mK: nearly all SPLIT states lie below the
+  critical temperature, which is under that.
 "
         )
     }
@@ -174,6 +177,19 @@ not take longer. As that is little, the two are compared round by round, and the
 judged. The other ratios are of the median rounds, the last of user times. That last one says little: the
 second implementation scans the whole grid for each state, since it is to be plain and not quick, and
 almost any search beats that.
+"
+    )
+}
+
+fn write_about_claims(out: &mut Formatter) -> Result {
+    write!(
+        out,
+        "\
+Nanoseconds per claim about a root, on all states and in rounds of their own, and how many claims or calls a second
+the median round makes. A call for the side answers its density too, which no claim asks for. The two are compared
+round by round, and the median of the ratios is given; no bar is set. Before the clock runs, all claims of a list are
+checked to stand, and each with a root one too large or one too small to be refused by 14.
+
 "
     )
 }

@@ -6,6 +6,7 @@
 
 mod bands;
 mod beside;
+mod claims;
 mod contenders;
 mod document;
 mod floors;
@@ -18,6 +19,7 @@ mod states;
 mod walks;
 
 use bands::Bands;
+use claims::Claims;
 use contenders::{Starts, Timings};
 use report::Report;
 use second::random::Random;
@@ -52,6 +54,7 @@ fn main() -> ExitCode {
         timings: Timings::measure(&timed, &starts),
         walks: Walks::measure(&scanned),
         bands: Bands::measure(&timed, &scanned),
+        claims: Claims::measure(&timed),
         scan: contenders::scan(&scanned),
         programs: programs::user_times(),
         solver: floors::of_solver(&counted),

@@ -61,6 +61,13 @@ pub fn band(state: &State, [lower, upper]: [u64; 2], roots: &mut [u64; BAND_ROOT
     boundary::band(fluid, millikelvin, pascals, lower, upper, roots)
 }
 
+/// The number of the reply to lists of claims: fluids, temperatures, pressures, sides and roots. The number of the
+/// refused claim is written.
+#[inline]
+pub fn claims([fluids, millikelvin, pascals, sides, roots]: [&[u64]; 5], claim: &mut u64) -> u64 {
+    boundary::claims(fluids, millikelvin, pascals, sides, roots, claim)
+}
+
 /// The answer to a state that the library accepts.
 pub fn answer(accepted: &State) -> Answer {
     let answer = Fluid::try_from(accepted.fluid)

@@ -1,6 +1,7 @@
 //! What was measured: the tables of docs/BENCHMARK.md, and the bars.
 
 use crate::bands::Bands;
+use crate::claims::Claims;
 use crate::contenders::Timings;
 use crate::floors::{with_a_zero, Difference};
 use crate::programs::{UserTimes, PROVED_RUNS, SECOND_RUNS};
@@ -18,6 +19,7 @@ pub struct Report {
     pub timings: Timings,
     pub walks: Walks,
     pub bands: Bands,
+    pub claims: Claims,
     pub scan: f64,
     pub programs: UserTimes,
     pub solver: Vec<Difference>,
@@ -169,6 +171,39 @@ impl Report {
         ] {
             let ratio = median / bands.without_densities.median;
             writeln!(out, "| {what} | {median:.1} | {quickest:.1} | {ratio:.3} |")?;
+        }
+        Ok(())
+    }
+
+    pub fn write_claims(&self, out: &mut Formatter) -> Result {
+        let claims = &self.claims;
+        writeln!(
+            out,
+            "| what | median round | quickest round | a second | beside the call for the side |"
+        )?;
+        writeln!(out, "|---|---:|---:|---:|---:|")?;
+        for (name, of_side) in [("gas", &claims.gas), ("dense", &claims.dense)] {
+            for (what, timing, ratio) in [
+                ("call for the SIDE side, `woolyard_side`", of_side.call, 1.0),
+                (
+                    "claim for the SIDE side that stands, one list of all, `woolyard_claims`",
+                    of_side.standing,
+                    of_side.standing_beside_call,
+                ),
+                (
+                    "claim for the SIDE side of a root one too large, a list each",
+                    of_side.refused,
+                    of_side.refused_beside_call,
+                ),
+            ] {
+                let what = what.replace("SIDE", name);
+                let Timing { median, quickest } = timing;
+                let a_second = grouped((1e9 / median).round() as usize);
+                writeln!(
+                    out,
+                    "| {what} | {median:.1} | {quickest:.1} | {a_second} | {ratio:.3} |"
+                )?;
+            }
         }
         Ok(())
     }

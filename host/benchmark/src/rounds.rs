@@ -53,9 +53,17 @@ pub fn beside(rounds: &[f64], other: &[f64]) -> f64 {
 /// Nanoseconds per state of one call each. The compiler may not look through the state.
 #[inline]
 pub fn pass(states: &[State], mut call: impl FnMut(&State)) -> f64 {
+    at_once(states.len(), || {
+        for state in states {
+            call(black_box(state));
+        }
+    })
+}
+
+/// Nanoseconds of each of so many things that are done together.
+#[inline]
+pub fn at_once(count: usize, all: impl FnOnce()) -> f64 {
     let begin = Instant::now();
-    for state in states {
-        call(black_box(state));
-    }
-    begin.elapsed().as_nanos() as f64 / states.len() as f64
+    all();
+    begin.elapsed().as_nanos() as f64 / count as f64
 }

@@ -11,7 +11,7 @@ pub fn spread(count: usize, random: &mut Random) -> Vec<State> {
 
 /// The pressure is log-uniform. The temperature is uniform, in one half of the states over the whole
 /// range and in the other up to three times the coldest: that is not far above the critical
-/// temperature of any fluid, so that SPLIT states, which lie below, are no rarity.
+/// temperature of any fluid, so that SPLIT states, which nearly all lie below, are no rarity.
 fn accepted(random: &mut Random) -> State {
     let fluid = random.number() as usize % FLUIDS.len();
     let Fluid {

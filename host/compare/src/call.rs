@@ -11,21 +11,23 @@ pub enum Function {
     SideWithBook = 3,
     Walk = 4,
     Band = 5,
-    Heat = 6,
-    HeatTable = 7,
-    Viscosity = 8,
-    Sheet = 9,
-    SheetLine = 10,
+    Claims = 6,
+    Heat = 7,
+    HeatTable = 8,
+    Viscosity = 9,
+    Sheet = 10,
+    SheetLine = 11,
 }
 
 /// The names in the header, in the order of the numbers.
-pub const NAMES: [&str; 11] = [
+pub const NAMES: [&str; 12] = [
     "woolyard_state",
     "woolyard_state_with_book",
     "woolyard_side",
     "woolyard_side_with_book",
     "woolyard_walk",
     "woolyard_band",
+    "woolyard_claims",
     "woolyard_heat",
     "woolyard_heat_table",
     "woolyard_viscosity",
@@ -33,15 +35,19 @@ pub const NAMES: [&str; 11] = [
     "woolyard_sheet_line",
 ];
 
+/// The lists of claims.
+const LISTS: [&str; 5] = ["fluids", "millikelvin", "pascals", "sides", "roots"];
+
 /// What no answered or refused call leaves as its number.
 const NOT_YET_MADE: u64 = u64::MAX;
 
 /// Before the call it holds the question, and after it the answer too, so that two calls are compared
-/// whole: the number, every place, and every lent byte, those past the told length among them.
+/// whole: the number, every place, and all that is lent, what lies past the told length among it.
 #[derive(Clone, Debug, PartialEq, Eq)]
 pub struct Call {
     pub function: Function,
-    /// The plain numbers in the order of the header, a double as its pattern; zeros for the rest.
+    /// The plain numbers in the order of the header, a double as its pattern, or the lengths of the lists; zeros
+    /// for the rest.
     pub arguments: [u64; 5],
     /// What the function fills in, as far as it has so many; the rest must stay as it was.
     pub places: [u64; 5],
@@ -49,6 +55,9 @@ pub struct Call {
     pub sheet: Vec<u8>,
     /// How many bytes of the book or the sheet the function is told of. More may lie behind.
     pub length: usize,
+    /// Five lists with room for as many numbers each, one behind the other. The function is told of so many of each
+    /// as the arguments say.
+    pub lists: Vec<u64>,
     /// The reply's number.
     pub number: u64,
 }
@@ -65,6 +74,7 @@ impl Call {
             book: Vec::new(),
             sheet: Vec::new(),
             length: 0,
+            lists: Vec::new(),
             number: NOT_YET_MADE,
         }
     }
@@ -115,6 +125,17 @@ impl Call {
         Call::new(Function::Band, arguments)
     }
 
+    /// Each claim is a fluid, a temperature, a pressure, a side and a root, which go into the five lists. The first
+    /// so many numbers of each, in this order, are the list.
+    pub fn claims(claims: &[[u64; 5]], lengths: [usize; 5]) -> Call {
+        let list = |which: usize| claims.iter().map(move |claim| claim[which]);
+        let lengths = lengths.map(|length| length as u64);
+        Call {
+            lists: (0..lengths.len()).flat_map(list).collect(),
+            ..Call::new(Function::Claims, lengths)
+        }
+    }
+
     pub fn heat(kelvin_pattern: u64) -> Call {
         Call::new(Function::Heat, [kelvin_pattern])
     }
@@ -146,6 +167,12 @@ impl Call {
     }
 }
 
+/// What the function is told of its lists, which are of these lengths.
+pub fn told_lists(lists: &[u64], lengths: [u64; 5]) -> [&[u64]; 5] {
+    let room = lists.len() / lengths.len();
+    std::array::from_fn(|which| &lists[which * room..][..room][..lengths[which] as usize])
+}
+
 /// Of a call that was made, the answer; of one that was not, the question and what lay in the places.
 impl fmt::Display for Call {
     fn fmt(&self, text: &mut fmt::Formatter<'_>) -> fmt::Result {
@@ -170,6 +197,7 @@ impl fmt::Display for Call {
             Function::StateWithBook | Function::SideWithBook => {
                 write!(text, ", book {:?}", self.book)
             }
+            Function::Claims => self.write_lists(text),
             Function::Sheet | Function::SheetLine => {
                 write!(text, ", sheet \"{}\"", self.sheet.escape_ascii())
             }
@@ -178,6 +206,20 @@ impl fmt::Display for Call {
 }
 
 impl Call {
+    /// How many bytes the book, the sheet or the lists take, of which only one is not empty.
+    pub fn lent_bytes(&self) -> usize {
+        self.book.len() + self.sheet.len() + size_of_val(&self.lists[..])
+    }
+
+    /// With all that lies past their lengths.
+    fn write_lists(&self, text: &mut fmt::Formatter<'_>) -> fmt::Result {
+        let room = (self.lists.len() / LISTS.len()) as u64;
+        for (name, list) in LISTS.iter().zip(told_lists(&self.lists, [room; 5])) {
+            write!(text, ", {name} {list:?}")?;
+        }
+        Ok(())
+    }
+
     /// The arguments with their names.
     fn asked(&self) -> String {
         let [first, second, third, fourth, fifth] = self.arguments;
@@ -192,6 +234,7 @@ impl Call {
             }
             Function::Walk => format!("{state}, limit {fourth}"),
             Function::Band => format!("{state}, lower {fourth}, upper {fifth}"),
+            Function::Claims => format!("lengths {:?}", self.arguments),
             Function::Heat => format!("kelvin {first:#018x} or {}", f64::from_bits(first)),
             Function::HeatTable => format!("millikelvin {first}"),
             Function::Viscosity => format!("thousandths {first}"),

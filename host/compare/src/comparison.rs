@@ -11,8 +11,8 @@ use std::io;
 /// The first difference in one line, or why there was no answer.
 pub type Outcome = Result<(), String>;
 
-/// How much waits before it is asked at once. A served process reads a batch into 1 MiB; each call adds
-/// less than 120 bytes to what it lends, and the last one lends less than a quarter of that.
+/// How much waits before it is asked at once. A served process reads a batch into 4 MiB; each call adds
+/// less than 120 bytes to what it lends, and the last one lends less than three quarters of that.
 const MOST_CALLS: usize = 2000;
 const MOST_LENT_BYTES: usize = 300_000;
 
@@ -46,7 +46,7 @@ impl Comparison {
     /// Has this call compared, at once or by the next `settle`.
     pub fn ask(&mut self, call: Call) -> Outcome {
         let question = self.question(call);
-        self.lent_bytes += question.book.len() + question.sheet.len();
+        self.lent_bytes += question.lent_bytes();
         self.waiting.push(question);
         if self.waiting.len() >= MOST_CALLS || self.lent_bytes >= MOST_LENT_BYTES {
             return self.settle();
@@ -147,6 +147,7 @@ mod tests {
             Call::state(state),
             Call::walk(state, 8411),
             Call::band(state, [950, 1050]),
+            Call::claims(&[[1, 120_000, 500_000, 0, 92_696]], [1; 5]),
             Call::heat(0),
             Call::heat_table(41_500),
             Call::viscosity(1000),
@@ -249,6 +250,41 @@ mod tests {
         let answered = vec![Call::band([1, 120_000, 500_000], [950, 1050])];
         let told = outcome(answered, |call| call.places.swap(0, 1)).expect_err("a difference");
         assert!(told.contains("answers 0 and [92232, 93155, "));
+    }
+
+    /// Of claims that stand, of a refused one behind one that stands, and of lists of unequal lengths: in the number,
+    /// in the claim's number, in a place that the call does not have, in a number of the first list and of the last,
+    /// and past their ends.
+    #[test]
+    fn differences_of_claims() {
+        let [gas, dense] = [
+            [1, 120_000, 500_000, 0, 92_696],
+            [1, 120_000, 500_000, 1, 1699],
+        ];
+        let wrong = [1, 120_000, 500_000, 1, 92_696];
+        for (claims, lengths, told) in [
+            ([gas, dense, wrong], [2; 5], "0 and [0, "),
+            ([gas, wrong, wrong], [2; 5], "14 and [1, "),
+            ([gas, wrong, wrong], [2, 2, 2, 2, 1], "8 and [0, "),
+        ] {
+            let list = || vec![Call::claims(&claims, lengths)];
+            assert_eq!(outcome(list(), |_| ()), Ok(()));
+            let changes: [fn(&mut Call); 7] = [
+                |call| call.number ^= 14,
+                |call| call.places[0] += 1,
+                |call| call.places[1] ^= 1,
+                |call| call.lists[0] = 0,
+                |call| call.lists[2] = 0,
+                |call| call.lists[12] = 0,
+                |call| call.lists[14] = 0,
+            ];
+            for change in changes {
+                let difference = outcome(list(), change).expect_err("a difference");
+                assert!(difference.contains(&format!("(lengths {lengths:?}) over")));
+                assert!(difference.contains(&format!("; the second implementation {told}")));
+                assert!(difference.contains(", fluids [1, 1, 1], millikelvin [120000, "));
+            }
+        }
     }
 
     /// Of an answer of the heat table, of a factor, and of those that are refused: in the number, in the one

@@ -1,7 +1,7 @@
 //! The archive, linked into this program.
 
 use crate::boundary::Boundary;
-use crate::call::{Call, Function};
+use crate::call::{told_lists, Call, Function};
 use std::io;
 use woolyard::boundary;
 
@@ -32,6 +32,12 @@ fn make(call: &mut Call) {
         Function::Band => {
             let roots = first_of(&mut call.places);
             boundary::band(first, second, third, fourth, fifth, roots)
+        }
+        Function::Claims => {
+            let lists = told_lists(&call.lists, call.arguments);
+            let [fluids, millikelvin, pascals, sides, roots] = lists;
+            let claim = &mut call.places[0];
+            boundary::claims(fluids, millikelvin, pascals, sides, roots, claim)
         }
         Function::Heat => heat(first, &mut call.places[0]),
         Function::HeatTable => boundary::heat_table(first, &mut call.places[0]),

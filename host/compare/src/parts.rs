@@ -2,6 +2,8 @@
 
 mod bands;
 mod books;
+mod claim_lists;
+mod claims;
 mod doubles;
 mod heat_table;
 mod sheets;
@@ -37,8 +39,8 @@ const WORKED: [[u64; 3]; 15] = [
     [3, 0, 0],
 ];
 
-/// Each fluid's number, its lowest temperature, and the one above which no state is SPLIT, where the
-/// temperature is the critical one; for hydrogen that is 43,600 - 2,180,000,000 / 201,594.
+/// Each fluid's number, its lowest temperature, and the critical one, which for hydrogen is
+/// 43,600 - 2,180,000,000 / 201,594. Above it a state is SPLIT only where t, rounded down, is still 10,000.
 const FLUIDS: [(u64, u64, u64); ALL.len()] = [
     (0, ALL[0].coldest, 32_786),
     (1, ALL[1].coldest, 154_576),
@@ -58,6 +60,8 @@ pub fn units() -> Vec<Unit> {
     units.extend(books::units());
     units.extend(walks::units());
     units.extend(bands::units());
+    units.extend(claims::units());
+    units.extend(claim_lists::units());
     units.extend(states::units());
     units.extend(split::units());
     units

@@ -1,8 +1,9 @@
 //! The second implementation, asked as the archive is.
 
 use crate::boundary::Boundary;
-use crate::call::{Call, Function};
+use crate::call::{told_lists, Call, Function};
 use second::band::{BandReply, Scaled};
+use second::claims::claims_reply_by;
 use second::heat::heat_capacity;
 use second::heat_table::tabled_heat_capacity;
 use second::sheet::{self, Refusal};
@@ -34,6 +35,7 @@ impl Boundary for Second {
                 Function::SideWithBook => self.side_with_book(call),
                 Function::Walk => self.walk(call),
                 Function::Band => self.band(call),
+                Function::Claims => self.claims(call),
                 Function::Heat => heat(call),
                 Function::HeatTable => write_figure(call, tabled_heat_capacity(call.arguments[0])),
                 Function::Viscosity => write_figure(call, excess_factor(call.arguments[0])),
@@ -116,6 +118,13 @@ impl Second {
         let reply = self.band_reply([fluid, millikelvin, pascals], [lower, upper]);
         call.number = reply.number;
         call.places[..2].copy_from_slice(&reply.figures());
+    }
+
+    fn claims(&mut self, call: &mut Call) {
+        let lists = told_lists(&call.lists, call.arguments);
+        let reply = claims_reply_by(lists, |state| self.reply(state));
+        call.number = reply.number;
+        call.places[0] = reply.claim;
     }
 }
 

@@ -114,14 +114,9 @@ fn word(number: u64) -> [u8; WORD_BYTES] {
     number.to_le_bytes()
 }
 
-/// What a call lends: the book or the sheet, of which only one is not empty.
-fn lent_bytes(call: &Call) -> usize {
-    call.book.len() + call.sheet.len()
-}
-
 /// How many bytes a call takes in a batch.
 fn length_of(call: &Call) -> usize {
-    WORDS * WORD_BYTES + lent_bytes(call).next_multiple_of(WORD_BYTES)
+    WORDS * WORD_BYTES + call.lent_bytes().next_multiple_of(WORD_BYTES)
 }
 
 fn bytes_of(call: &Call) -> Vec<u8> {
@@ -138,8 +133,9 @@ fn put(call: &Call, bytes: &mut Vec<u8>) {
     put_word(call.function as u64);
     call.arguments.into_iter().for_each(&mut put_word);
     put_word(call.length as u64);
-    put_word(lent_bytes(call) as u64);
+    put_word(call.lent_bytes() as u64);
     call.places.into_iter().for_each(&mut put_word);
+    call.lists.iter().copied().for_each(&mut put_word);
     bytes.extend_from_slice(&call.book);
     bytes.extend_from_slice(&call.sheet);
     bytes.resize(end, 0);
@@ -148,13 +144,14 @@ fn put(call: &Call, bytes: &mut Vec<u8>) {
 /// Takes the answer over. All else must have come back as it was sent.
 fn answered(call: &mut Call, answer: &[u8]) -> io::Result<()> {
     let sent = bytes_of(call);
-    let (words, lent) = answer.split_at(WORDS * WORD_BYTES);
+    let (words, lent) = answer.split_at((WORDS + call.lists.len()) * WORD_BYTES);
     let words: Vec<u64> = words
         .chunks_exact(WORD_BYTES)
         .map(|bytes| u64::from_le_bytes(bytes.try_into().expect("eight bytes")))
         .collect();
     call.number = words[0];
-    call.places.copy_from_slice(&words[PLACES..]);
+    call.places.copy_from_slice(&words[PLACES..WORDS]);
+    call.lists.copy_from_slice(&words[WORDS..]);
     let (book, behind_book) = lent.split_at(call.book.len());
     let (sheet, filled_up) = behind_book.split_at(call.sheet.len());
     call.book.copy_from_slice(book);
@@ -177,18 +174,22 @@ mod tests {
         Call::state_with_book([1, 2, 3], 4, &[5, 6, 7], 2)
     }
 
-    /// An answer is taken over, and is nothing else than the call was where nothing was written.
+    /// An answer is taken over, with what was written to what is lent, and is nothing else than the call was where
+    /// nothing was written.
     #[test]
     fn answers() {
-        let mut made = call();
-        made.number = 0;
-        made.places = [1, 2, 3, 4, 5];
-        made.book[2] = 8;
-        let mut answer = bytes_of(&made);
-        answer[..WORD_BYTES].copy_from_slice(&word(0));
-        let mut taken = call();
-        answered(&mut taken, &answer).expect("an answer");
-        assert_eq!(taken, made);
+        let claims = Call::claims(&[[1, 2, 3, 4, 5], [6, 7, 8, 9, 10]], [2; 5]);
+        for mut taken in [call(), claims] {
+            let mut made = taken.clone();
+            made.number = 0;
+            made.places = [1, 2, 3, 4, 5];
+            made.book.iter_mut().skip(2).for_each(|byte| *byte = 8);
+            made.lists.iter_mut().skip(2).for_each(|number| *number = 8);
+            let mut answer = bytes_of(&made);
+            answer[..WORD_BYTES].copy_from_slice(&word(0));
+            answered(&mut taken, &answer).expect("an answer");
+            assert_eq!(taken, made);
+        }
     }
 
     /// One that reads nothing and writes nothing, one that ends at once, and one that sends the number of

@@ -5,6 +5,7 @@
 pub mod band;
 #[cfg(test)]
 mod cases;
+pub mod claims;
 pub mod cubic;
 mod fraction;
 pub mod heat;

@@ -1,6 +1,6 @@
 //! The wrappers in use: what host/examples/woolyard_example.c does, in Rust.
 
-use woolyard::{FaultySheet, Fluid, Kind, Refusal, Side};
+use woolyard::{Claim, FaultySheet, Fluid, Kind, Refusal, Side};
 
 fn print_sheet(sheet: &[u8]) {
     match woolyard::sheet(sheet) {
@@ -71,6 +71,25 @@ fn main() -> Result<(), Refusal> {
     );
     if let Err(refusal) = woolyard::band(Fluid::Oxygen, 120_000, 500_000, 1050, 950) {
         println!("with 1.050 to 0.950 of it: reply {}", refusal.number());
+    }
+
+    let oxygen = |side: Side, root| Claim {
+        fluid: Fluid::Oxygen.number(),
+        millikelvin: 120_000,
+        pascals: 500_000,
+        side: side.number(),
+        root,
+    };
+    let gas = oxygen(Side::Gas, 92_696);
+    if woolyard::claims(&[gas, oxygen(Side::Dense, 1699)]).is_ok() {
+        println!("its roots claimed, 92696 for gas and 1699 for dense: reply 0");
+    }
+    if let Err(refused) = woolyard::claims(&[gas, oxygen(Side::Dense, 92_696)]) {
+        println!(
+            "with 92696 claimed for both: reply {}, claim {}",
+            refused.refusal.number(),
+            refused.claim
+        );
     }
 
     if let Err(refusal) = woolyard::state(Fluid::Oxygen, 55_999, 500_000) {

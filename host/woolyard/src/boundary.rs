@@ -1,4 +1,4 @@
-//! The eleven functions of include/woolyard.h, as they are: numbers in, the reply's number out, and the
+//! The twelve functions of include/woolyard.h, as they are: numbers in, the reply's number out, and the
 //! figures in the places that the caller lends. All that is unsafe stands here.
 //!
 //! The header asks that a pointer points to as many elements as its array or its length says, that it
@@ -68,6 +68,19 @@ mod foreign {
             lower: u64,
             upper: u64,
             roots: *mut [u64; super::BAND_ROOTS],
+        ) -> u64;
+        pub fn woolyard_claims(
+            fluids: *const u64,
+            fluids_length: usize,
+            millikelvin: *const u64,
+            millikelvin_length: usize,
+            pascals: *const u64,
+            pascals_length: usize,
+            sides: *const u64,
+            sides_length: usize,
+            roots: *const u64,
+            roots_length: usize,
+            claim: *mut u64,
         ) -> u64;
         pub fn woolyard_heat(kelvin: f64, heat: *mut f64) -> u64;
         pub fn woolyard_heat_table(millikelvin: u64, heat: *mut u64) -> u64;
@@ -173,6 +186,35 @@ pub fn band(
 ) -> u64 {
     // SAFETY: `roots` is the two places that are written, and nothing else is lent.
     unsafe { foreign::woolyard_band(fluid, millikelvin, pascals, lower, upper, roots) }
+}
+
+/// `woolyard_claims`: lists of any lengths and of any numbers; `claim` is the number of the refused one, or 0.
+#[inline]
+pub fn claims(
+    fluids: &[u64],
+    millikelvin: &[u64],
+    pascals: &[u64],
+    sides: &[u64],
+    roots: &[u64],
+    claim: &mut u64,
+) -> u64 {
+    // SAFETY: each list has as many numbers as its length says and none is written; `claim` is the one place that
+    // is, and lies apart, since it is `&mut`.
+    unsafe {
+        foreign::woolyard_claims(
+            fluids.as_ptr(),
+            fluids.len(),
+            millikelvin.as_ptr(),
+            millikelvin.len(),
+            pascals.as_ptr(),
+            pascals.len(),
+            sides.as_ptr(),
+            sides.len(),
+            roots.as_ptr(),
+            roots.len(),
+            claim,
+        )
+    }
 }
 
 /// `woolyard_heat`: any double at all; where it is refused, `heat` is left alone.

@@ -3,8 +3,8 @@
 //!
 //! Safe Rust over `libwoolyard.a`, whose functions are proved to answer what document 01 (rules and
 //! scope of the build) defines, as later requests amend it. Every function answers every input, and
-//! the caller checks nothing first. None keeps a reference, allocates, or has state of its own, so
-//! calls may run at the same time.
+//! the caller checks nothing first. None keeps a reference or has state of its own, so calls may run at
+//! the same time; and none allocates but [`claims`], which makes lists of its rows.
 //!
 //! ```
 //! use woolyard::{Fluid, Kind, Refusal, Side};
@@ -28,7 +28,10 @@ mod reply;
 mod tests;
 
 use boundary::{BAND_ROOTS, FIGURES, SIDE_FIGURES, WALK_FIGURES};
-pub use reply::{Answer, Band, FaultySheet, Fluid, Kind, Refusal, Side, SideAnswer, State, Walk};
+pub use reply::{
+    Answer, Band, Claim, FaultySheet, Fluid, Kind, Refusal, RefusedClaim, Side, SideAnswer, State,
+    Walk,
+};
 
 /// How many bytes a book has.
 pub const BOOK_BYTES: usize = 192;
@@ -165,6 +168,45 @@ pub fn band(
         lower_root,
         upper_root,
     })
+}
+
+/// Checks roots that other programs gave, as the rows of a spreadsheet have them. A claim stands exactly if its
+/// state is accepted and the root is that side's own, which is the one that [`side`] answers. The first claim that
+/// does not is told, with the first of refusals 1, 21, 22, 31, 32, 12 and 14 that applies to it; 14 is for another
+/// root. Where there are no rows, there is none that does not stand.
+///
+/// ```
+/// use woolyard::{Claim, Fluid, Refusal, RefusedClaim, Side};
+///
+/// let oxygen = |side: Side, root| Claim {
+///     fluid: Fluid::Oxygen.number(),
+///     millikelvin: 120_000,
+///     pascals: 500_000,
+///     side: side.number(),
+///     root,
+/// };
+/// let gas = oxygen(Side::Gas, 92_696);
+/// assert_eq!(woolyard::claims(&[gas, oxygen(Side::Dense, 1699)]), Ok(()));
+/// let refused = RefusedClaim {
+///     claim: 1,
+///     refusal: Refusal::RootDiffers,
+/// };
+/// assert_eq!(woolyard::claims(&[gas, oxygen(Side::Dense, 92_696)]), Err(refused));
+/// ```
+pub fn claims(rows: &[Claim]) -> Result<(), RefusedClaim> {
+    let list = |number: fn(&Claim) -> u64| rows.iter().map(number).collect::<Vec<u64>>();
+    let mut claim = 0;
+    let number = boundary::claims(
+        &list(|row| row.fluid),
+        &list(|row| row.millikelvin),
+        &list(|row| row.pascals),
+        &list(|row| row.side),
+        &list(|row| row.root),
+        &mut claim,
+    );
+    // the number of a row, so it is not cut off
+    let claim = claim as usize;
+    Refusal::check(number).map_err(|refusal| RefusedClaim { claim, refusal })
 }
 
 /// Hydrogen's ideal heat capacity at a temperature in kelvin, any double at all: kJ/(kg K), equal bit

@@ -103,6 +103,35 @@ pub struct Band {
     pub upper_root: u64,
 }
 
+/// A claim that a root is that of a state's side, any numbers, as another program gave them.
+#[derive(Clone, Copy, Debug, PartialEq, Eq, Hash)]
+pub struct Claim {
+    /// The number of a [`Fluid`].
+    pub fluid: u64,
+    pub millikelvin: u64,
+    pub pascals: u64,
+    /// The number of a [`Side`].
+    pub side: u64,
+    /// In hundred-thousandths.
+    pub root: u64,
+}
+
+/// The first claim of a list that does not stand.
+#[derive(Clone, Copy, Debug, PartialEq, Eq, Hash)]
+pub struct RefusedClaim {
+    /// Its number in the list, from 0.
+    pub claim: usize,
+    pub refusal: Refusal,
+}
+
+impl fmt::Display for RefusedClaim {
+    fn fmt(&self, text: &mut fmt::Formatter<'_>) -> fmt::Result {
+        write!(text, "claim {}: {}", self.claim, self.refusal)
+    }
+}
+
+impl Error for RefusedClaim {}
+
 /// A state line as written, in range or not.
 #[derive(Clone, Copy, Debug, PartialEq, Eq, Hash)]
 pub struct State {
@@ -123,6 +152,8 @@ pub enum Refusal {
     NoSuchSlot = 4,
     WalkCutShort = 11,
     ScalingOutOfRange = 13,
+    LengthsDiffer = 8,
+    RootDiffers = 14,
     HeatOutOfRange = 5,
     DensityOutOfRange = 15,
     SheetMalformed = 6,
@@ -131,7 +162,7 @@ pub enum Refusal {
 }
 
 impl Refusal {
-    const ALL: [Refusal; 14] = [
+    const ALL: [Refusal; 16] = [
         Refusal::NoSuchFluid,
         Refusal::TemperatureTooLow,
         Refusal::TemperatureTooHigh,
@@ -141,6 +172,8 @@ impl Refusal {
         Refusal::NoSuchSlot,
         Refusal::WalkCutShort,
         Refusal::ScalingOutOfRange,
+        Refusal::LengthsDiffer,
+        Refusal::RootDiffers,
         Refusal::HeatOutOfRange,
         Refusal::DensityOutOfRange,
         Refusal::SheetMalformed,
@@ -177,6 +210,8 @@ impl fmt::Display for Refusal {
             Refusal::ScalingOutOfRange => {
                 "a scaling below 500 or above 1500 thousandths, or the lower one not first"
             }
+            Refusal::LengthsDiffer => "lists of claims of unequal lengths",
+            Refusal::RootDiffers => "the root that is claimed is not the side's",
             Refusal::HeatOutOfRange => "heat-capacity temperature not a number in 14 to 1000 K",
             Refusal::DensityOutOfRange => "reduced density below 100 or above 3000 thousandths",
             Refusal::SheetMalformed => "sheet badly formed",

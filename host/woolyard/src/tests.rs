@@ -1,4 +1,4 @@
-//! Document 01, "Points worked through" and "State sheets", and document 02, C-14, C-17 to C-20, C-22 and C-24.
+//! Document 01, "Points worked through" and "State sheets", and document 02, C-14, C-17 to C-20 and C-22 to C-24.
 
 use super::*;
 
@@ -337,6 +337,106 @@ fn bands_that_are_refused() {
         );
     }
     assert_eq!(Refusal::check(13), Err(Refusal::ScalingOutOfRange));
+}
+
+fn row([fluid, millikelvin, pascals, side, root]: [u64; 5]) -> Claim {
+    Claim {
+        fluid,
+        millikelvin,
+        pascals,
+        side,
+        root,
+    }
+}
+
+/// Both sides of a SPLIT state, of a ONE state, and of another fluid.
+const STANDING: [[u64; 5]; 6] = [
+    [1, 120_000, 500_000, 0, 92_696],
+    [1, 120_000, 500_000, 1, 1699],
+    [0, 300_000, 1_000_000, 0, 100_474],
+    [0, 300_000, 1_000_000, 1, 100_474],
+    [2, 90_000, 300_000, 0, 91_704],
+    [2, 90_000, 300_000, 1, 1518],
+];
+
+#[test]
+fn claims_that_stand() {
+    assert_eq!(claims(&STANDING.map(row)), Ok(()));
+    assert_eq!(claims(&[]), Ok(()));
+    for claim in STANDING {
+        assert_eq!(claims(&[row(claim)]), Ok(()));
+    }
+}
+
+/// The other side's root, the cubic's root between the two, those beside the side's own, one that is the side's to
+/// whoever keeps 32 bits, and none; each for a claim behind others and before one that is refused too.
+#[test]
+fn claims_of_another_root() {
+    let refused = RefusedClaim {
+        claim: 2,
+        refusal: Refusal::RootDiffers,
+    };
+    let far = [(1 << 32) + 92_696, (1 << 32) + 1699];
+    for (side, own, other_side) in [(0, 92_696, 1699), (1, 1699, 92_696)] {
+        let others = [other_side, 5604, own - 1, own + 1, 0, u64::MAX];
+        for root in others.into_iter().chain(far) {
+            let other = [1, 120_000, 500_000, side, root];
+            let list = [
+                STANDING[0],
+                STANDING[1],
+                other,
+                STANDING[2],
+                [3, 0, 0, 0, 0],
+            ];
+            assert_eq!(claims(&list.map(row)), Err(refused), "{other:?}");
+        }
+    }
+}
+
+/// In the order of the refusals, each with all that come behind it: the state's own, 12 and 14.
+#[test]
+fn claims_that_are_refused() {
+    for (refused, refusal) in [
+        ([3, 0, 0, 2, 0], Refusal::NoSuchFluid),
+        ([1, 55_999, 0, 2, 0], Refusal::TemperatureTooLow),
+        ([1, 1_000_001, 0, 2, 0], Refusal::TemperatureTooHigh),
+        ([1, 120_000, 9_999, 2, 0], Refusal::PressureTooLow),
+        ([1, 120_000, 50_000_001, 2, 0], Refusal::PressureTooHigh),
+        ([1, 120_000, 500_000, 2, 0], Refusal::NoSuchSide),
+        ([1, 120_000, 500_000, 1, 0], Refusal::RootDiffers),
+    ] {
+        for claim in 0..STANDING.len() {
+            let mut list = STANDING.map(row);
+            list[claim] = row(refused);
+            assert_eq!(claims(&list), Err(RefusedClaim { claim, refusal }));
+        }
+    }
+}
+
+/// Each list in turn is shorter or longer than the others; where it is as long, all claims stand.
+#[test]
+fn lists_of_unequal_lengths() {
+    let list = |which: usize, length| {
+        let numbers = STANDING.iter().map(move |claim| claim[which]);
+        numbers.take(length).collect::<Vec<u64>>()
+    };
+    let call = |lengths: [usize; 5]| {
+        let lists = [0, 1, 2, 3, 4].map(|which| list(which, lengths[which]));
+        let [fluids, millikelvin, pascals, sides, roots] = &lists;
+        let mut claim = 7;
+        let number = boundary::claims(fluids, millikelvin, pascals, sides, roots, &mut claim);
+        (number, claim)
+    };
+    for length in 0..=STANDING.len() {
+        assert_eq!(call([length; 5]), (0, 0));
+        for (which, other) in (0..5).flat_map(|which| [(which, 0), (which, 3), (which, 6)]) {
+            let mut lengths = [length; 5];
+            lengths[which] = other;
+            let number = if other == length { 0 } else { 8 };
+            assert_eq!(call(lengths), (number, 0), "{lengths:?}");
+        }
+    }
+    assert_eq!(Refusal::check(8), Err(Refusal::LengthsDiffer));
 }
 
 #[test]

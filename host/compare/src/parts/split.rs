@@ -2,7 +2,7 @@
 //! point.
 
 use super::states::every_form;
-use super::{spread_over, unit, FLUIDS};
+use super::{spread_over, unit, Asks, FLUIDS};
 use crate::comparison::{Comparison, Outcome};
 use crate::workers::Unit;
 use second::cubic::N;
@@ -20,6 +20,13 @@ const UNITS: u64 = 12;
 /// The isotherms of the tip lie 1, 2, 4 and so on to 4096 mK below the critical temperature.
 const DOUBLINGS: u32 = 12;
 
+/// The hottest SPLIT state of each fluid, with the roots nearest to each other that a wide search met: 32,452 and 34,028.
+const HOTTEST_SPLIT: [[u64; 3]; 3] = [
+    [0, 32_790, 1_226_311],
+    [1, 154_591, 5_040_840],
+    [2, 126_204, 3_395_018],
+];
+
 /// No state is SPLIT above it, as the critical pressure of oxygen is 5,042,000 Pa and the others' are less.
 const HIGHEST_SPLIT: u64 = 5_100_000;
 
@@ -31,7 +38,7 @@ pub fn units() -> Vec<Unit> {
         }));
         units.push(unit(PART, move |comparison| edges(comparison, seed)));
     }
-    units.push(unit(PART, tip));
+    units.push(unit(PART, |comparison| tip(comparison, every_form)));
     units
 }
 
@@ -53,7 +60,8 @@ fn edges(comparison: &mut Comparison, seed: u64) -> Outcome {
             let part = which * UNITS + seed;
             let millikelvin = critical - (critical - coldest) * part / (ISOTHERMS * UNITS);
             for edge in edges_of(comparison, [fluid, millikelvin]) {
-                every_form_around(comparison, [fluid, millikelvin, edge], &mut random)?;
+                let edge = [fluid, millikelvin, edge];
+                ask_around(comparison, edge, &mut random, every_form)?;
             }
         }
     }
@@ -78,13 +86,14 @@ pub fn changes(mut kind: impl FnMut(u64) -> u64) -> Vec<u64> {
 }
 
 /// Both sides of an edge, of which this state is the last on the lower one.
-fn every_form_around(
+pub fn ask_around(
     comparison: &mut Comparison,
     [fluid, millikelvin, edge]: [u64; 3],
     random: &mut Random,
+    ask: Asks,
 ) -> Outcome {
     for pascals in around(edge) {
-        every_form(comparison, [fluid, millikelvin, pascals], random)?;
+        ask(comparison, [fluid, millikelvin, pascals], random)?;
     }
     Ok(())
 }
@@ -98,7 +107,7 @@ pub fn around(edge: u64) -> impl Iterator<Item = u64> {
 
 /// The nearer the critical point, the narrower the region, which no steps of pressure would meet, and the
 /// less the roots of a SPLIT state differ.
-fn tip(comparison: &mut Comparison) -> Outcome {
+pub fn tip(comparison: &mut Comparison, ask: Asks) -> Outcome {
     let mut random = Random(0);
     for (fluid, _, critical) in FLUIDS {
         for millikelvin in (0..=DOUBLINGS).map(|doublings| critical - (1 << doublings)) {
@@ -106,13 +115,16 @@ fn tip(comparison: &mut Comparison) -> Outcome {
             let lower = last_above_a_third(comparison, isotherm, |reply| reply.dense_root);
             let upper = last_above_a_third(comparison, isotherm, |reply| reply.gas_root);
             for edge in [lower, upper] {
-                every_form_around(comparison, [fluid, millikelvin, edge], &mut random)?;
+                ask_around(comparison, [fluid, millikelvin, edge], &mut random, ask)?;
             }
             for part in 1..8 {
                 let between = lower + (upper - lower) * part / 8;
-                every_form(comparison, [fluid, millikelvin, between], &mut random)?;
+                ask(comparison, [fluid, millikelvin, between], &mut random)?;
             }
         }
+    }
+    for state in HOTTEST_SPLIT {
+        ask(comparison, state, &mut random)?;
     }
     Ok(())
 }
@@ -163,4 +175,24 @@ pub fn last_before_change(
         }
     }
     Some(low)
+}
+
+#[cfg(test)]
+mod tests {
+    use super::*;
+    use second::state::{reply, ONE};
+
+    /// A millikelvin above, t is no longer 10,000.
+    #[test]
+    fn hottest_split_states() {
+        for [fluid, millikelvin, pascals] in HOTTEST_SPLIT {
+            let Reply {
+                dense_root,
+                gas_root,
+                ..
+            } = reply(fluid, millikelvin, pascals);
+            assert_eq!((dense_root, gas_root), (32_452, 34_028));
+            assert_eq!(reply(fluid, millikelvin + 1, pascals).kind, ONE);
+        }
+    }
 }

@@ -1,7 +1,7 @@
 //! Walks with limits of all kinds: at every end of a range, at the worked states, over a spread of states, where
 //! states are SPLIT, and on both sides of the edges of that region.
 
-use super::split::{around, edges_of};
+use super::split::{ask_around, edges_of};
 use super::states::{all_ends, FLUID_NUMBERS};
 use super::{of_all_magnitudes, spread_over, unit, FLUIDS, WORKED};
 use crate::call::Call;
@@ -73,9 +73,8 @@ fn edges(comparison: &mut Comparison, which: u64) -> Outcome {
     for (fluid, coldest, critical) in FLUIDS {
         let millikelvin = coldest + (critical - coldest) * which / ISOTHERMS;
         for edge in edges_of(comparison, [fluid, millikelvin]) {
-            for pascals in around(edge) {
-                beside_needed(comparison, [fluid, millikelvin, pascals], &mut random)?;
-            }
+            let edge = [fluid, millikelvin, edge];
+            ask_around(comparison, edge, &mut random, beside_needed)?;
         }
     }
     Ok(())

@@ -7,13 +7,13 @@ use Rattle.state.proofs.answers.answer_side.Tie as tie
 returns : tie.Need-returns
 returns c =
     let start = c .before .before .args in
-    reported-for {gas = start .gas} {dense = start .dense} (start .fluid) (start .side) _ _ (c .before .root-for .ensures) (c .grams .ensures)
+    reported-for {gas = start .gas} {dense = start .dense} (start .fluid) (start .side) _ _ (c .before .for-side .ensures) (c .grams .ensures)
 
-root-for-requires : tie.Need-root-for-requires
-root-for-requires c κs = search needs
+for-side-requires : tie.Need-for-side-requires
+for-side-requires c κs = search needs
 
 grams-requires : tie.Need-grams-requires
-grams-requires c κs = rw (c .root-for .ensures) (weighable-for (c .before .args .side) (c .before .pre))
+grams-requires c κs = rw (c .for-side .ensures) (weighable-for (c .before .args .side) (c .before .pre))
 
 pub answer-side-spec : {M : Type 1} → statement M
-answer-side-spec = tie.close (tie.spec root-for-requires grams-requires returns)
+answer-side-spec = tie.close (tie.spec for-side-requires grams-requires returns)
