@@ -12,8 +12,7 @@ use Rattle.replies.specs.Figures.{numberOfKind, figuresOf}
 use Rattle.replies.specs.Sides.{gas, dense, forSide, sideFiguresOf}
 use Rattle.state.specs.Replies.{Answered, Replies, RepliesForSide}
 use Rattle.state.proofs.Theorems.{one-has-equal-sides, every-side-has-a-reply}
-use Rattle.claims.specs.Claims.{Claim, SideRoot, sideChecks, Stands}
-use Rattle.claims.specs.Inside.{claimOf}
+use Rattle.claims.specs.Claims.{Claim, claimOf, SideRoot, sideChecks, Stands}
 use Rattle.claims.proofs.Verdicts.{side-root-once}
 
 abbrev numberIn : Figures → ℕ

@@ -17,6 +17,10 @@ pub record Claim : Type 0 where
   pub side : ℕ
   pub root : ℕ
 
+abbrev pub claimOf : (fluid millikelvin pascals side root : ℕ) → Claim
+claimOf fluid millikelvin pascals side root =
+    record { fluid = fluid; millikelvin = millikelvin; pascals = pascals; side = side; root = root }
+
 -- the root that the claim's state has for the claim's side
 pub record SideRoot (claim : Claim) (root : ℕ) : Type 0 where
   pub found : Found

@@ -9,10 +9,6 @@ use Rattle.claims.specs.declared.judging.Verdict.the-variants as Verdict
 use Rattle.claims.specs.Claims.{Claim, Stands, claimChecks}
 use Rattle.claims.specs.Lists.{FiveLists, UnequalLengths, OneLength}
 
-abbrev pub claimOf : (fluid millikelvin pascals side root : ℕ) → Claim
-claimOf fluid millikelvin pascals side root =
-    record { fluid = fluid; millikelvin = millikelvin; pascals = pascals; side = side; root = root }
-
 abbrev pub Judges : Claim → Verdict → Type 0
 Judges claim Verdict.Stands = Stands claim
 Judges claim (Verdict.Refused refusal) = FirstOf (claimChecks claim) (numberOfRefusal refusal)

@@ -4,7 +4,7 @@ use mathlib.Core.Logic.{_⊎_}
 use mathlib.Core.List.{List}
 use Prim.Native.Nat.{ℕ, _<_}
 use lib.ListN.{length, getD}
-use Rattle.claims.specs.Claims.{Claim, Stands}
+use Rattle.claims.specs.Claims.{Claim, claimOf, Stands}
 
 pub record FiveLists : Type 0 where
   pub fluids : List ℕ
@@ -17,10 +17,11 @@ abbrev pub listsOf : (fluids millikelvin pascals sides roots : List ℕ) → Fiv
 listsOf fluids millikelvin pascals sides roots =
     record { fluids = fluids; millikelvin = millikelvin; pascals = pascals; sides = sides; roots = roots }
 
--- how many claims there are
+-- how many claims there are: as many as the first list has numbers
 abbrev pub count : FiveLists → ℕ
 count lists = length (lists .fluids)
 
+-- one of the others has not as many
 abbrev pub UnequalLengths : FiveLists → Type 0
 UnequalLengths lists =
     (length (lists .millikelvin) ≡ count lists → ⊥)
@@ -28,7 +29,7 @@ UnequalLengths lists =
     ⊎ (length (lists .sides) ≡ count lists → ⊥)
     ⊎ (length (lists .roots) ≡ count lists → ⊥)
 
--- the same without the list
+-- each of them has
 pub record OneLength (lists : FiveLists) : Type 0 where
   pub of-millikelvin : length (lists .millikelvin) ≡ count lists
   pub of-pascals : length (lists .pascals) ≡ count lists
@@ -38,13 +39,7 @@ pub record OneLength (lists : FiveLists) : Type 0 where
 -- claim k, counted from 0, has number k of each list
 abbrev pub claimAt : FiveLists → (k : ℕ) → Claim
 claimAt lists k =
-    record {
-      fluid = getD (lists .fluids) k 0;
-      millikelvin = getD (lists .millikelvin) k 0;
-      pascals = getD (lists .pascals) k 0;
-      side = getD (lists .sides) k 0;
-      root = getD (lists .roots) k 0;
-    }
+    claimOf (getD (lists .fluids) k 0) (getD (lists .millikelvin) k 0) (getD (lists .pascals) k 0) (getD (lists .sides) k 0) (getD (lists .roots) k 0)
 
 -- every claim before claim k stands
 pub record StandBefore (lists : FiveLists) (k : ℕ) : Type 0 where

@@ -28,7 +28,7 @@ pub record FirstRefused (lists : FiveLists) (claims claim refusal : ℕ) : Type 
   pub before : StandBefore lists claim
   pub is-first : FirstOf (claimChecks (claimAt lists claim)) refusal
 
--- of the first so many claims
+-- what is told of the first so many claims
 pub data Checked (lists : FiveLists) (claims : ℕ) (figures : ClaimsFigures) : Type 0 where
   all-stand : StandBefore lists claims → figures ≡ answered → Checked lists claims figures
   one-refused : (claim refusal : ℕ) → FirstRefused lists claims claim refusal → figures ≡ refusedWith refusal claim → Checked lists claims figures

@@ -1,6 +1,7 @@
 // One claim, judged by the root that its side has. To look at g beside the root that is claimed would not be
 // enough: in a SPLIT state it would pass for both sides.
-ghost use Rattle.claims.specs.Inside.{claimOf, Judges};
+ghost use Rattle.claims.specs.Claims.{claimOf};
+ghost use Rattle.claims.specs.Inside.{Judges};
 use calls::Form;
 use refusals::Refusal;
 use replies::for_side;

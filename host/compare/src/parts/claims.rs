@@ -2,9 +2,9 @@
 //! worked states, over a spread of states, where states are SPLIT, on both sides of that region's edges and at its
 //! tip; and for a SPLIT state of each fluid every root.
 
-use super::split::{ask_around, edges_of, last_before_change, tip};
+use super::split::{edges_on, last_before_change, tip};
 use super::states::{all_ends, FLUID_NUMBERS};
-use super::{beside, of_all_magnitudes, spread_over, unit, FLUIDS, NO_SIDES, WORKED};
+use super::{beside, of_all_magnitudes, spread_over, unit, NO_SIDES, WORKED};
 use crate::call::Call;
 use crate::comparison::{Comparison, Outcome};
 use crate::workers::Unit;
@@ -69,7 +69,9 @@ pub fn units() -> Vec<Unit> {
         }));
     }
     for which in 0..ISOTHERMS {
-        units.push(unit(PART, move |comparison| edges(comparison, which)));
+        units.push(unit(PART, move |comparison| {
+            edges_on(comparison, [which, ISOTHERMS], near_roots)
+        }));
     }
     units.push(unit(PART, |comparison| tip(comparison, near_roots)));
     units
@@ -136,19 +138,6 @@ fn near_roots(comparison: &mut Comparison, state: [u64; 3], random: &mut Random)
     let neither = NO_SIDES[random.number() as usize % NO_SIDES.len()];
     for root in [roots(comparison, state)[0], any] {
         ask(comparison, &[claim(state, neither, root)])?;
-    }
-    Ok(())
-}
-
-/// Both sides of each edge.
-fn edges(comparison: &mut Comparison, which: u64) -> Outcome {
-    let mut random = Random(which);
-    for (fluid, coldest, critical) in FLUIDS {
-        let millikelvin = coldest + (critical - coldest) * which / ISOTHERMS;
-        for edge in edges_of(comparison, [fluid, millikelvin]) {
-            let edge = [fluid, millikelvin, edge];
-            ask_around(comparison, edge, &mut random, near_roots)?;
-        }
     }
     Ok(())
 }

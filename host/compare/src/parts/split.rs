@@ -59,17 +59,37 @@ fn edges(comparison: &mut Comparison, seed: u64) -> Outcome {
             // evenly down from the critical temperature, other ones in each unit
             let part = which * UNITS + seed;
             let millikelvin = critical - (critical - coldest) * part / (ISOTHERMS * UNITS);
-            for edge in edges_of(comparison, [fluid, millikelvin]) {
-                let edge = [fluid, millikelvin, edge];
-                ask_around(comparison, edge, &mut random, every_form)?;
-            }
+            ask_around_edges(comparison, [fluid, millikelvin], &mut random, every_form)?;
         }
     }
     Ok(())
 }
 
+/// Both sides of each edge, on one of so many isotherms of each fluid, evenly up from the lowest temperature.
+pub fn edges_on(comparison: &mut Comparison, [which, isotherms]: [u64; 2], ask: Asks) -> Outcome {
+    let mut random = Random(which);
+    for (fluid, coldest, critical) in FLUIDS {
+        let millikelvin = coldest + (critical - coldest) * which / isotherms;
+        ask_around_edges(comparison, [fluid, millikelvin], &mut random, ask)?;
+    }
+    Ok(())
+}
+
+/// Both sides of each edge of an isotherm.
+fn ask_around_edges(
+    comparison: &mut Comparison,
+    [fluid, millikelvin]: [u64; 2],
+    random: &mut Random,
+    ask: Asks,
+) -> Outcome {
+    for edge in edges_of(comparison, [fluid, millikelvin]) {
+        ask_around(comparison, [fluid, millikelvin, edge], random, ask)?;
+    }
+    Ok(())
+}
+
 /// The last pressure of the isotherm before each change of the kind.
-pub fn edges_of(comparison: &mut Comparison, [fluid, millikelvin]: [u64; 2]) -> Vec<u64> {
+fn edges_of(comparison: &mut Comparison, [fluid, millikelvin]: [u64; 2]) -> Vec<u64> {
     changes(|pascals| {
         let state = [fluid, millikelvin, pascals];
         comparison.second().reply(state).kind
@@ -86,7 +106,7 @@ pub fn changes(mut kind: impl FnMut(u64) -> u64) -> Vec<u64> {
 }
 
 /// Both sides of an edge, of which this state is the last on the lower one.
-pub fn ask_around(
+fn ask_around(
     comparison: &mut Comparison,
     [fluid, millikelvin, edge]: [u64; 3],
     random: &mut Random,

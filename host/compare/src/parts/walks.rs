@@ -1,9 +1,9 @@
 //! Walks with limits of all kinds: at every end of a range, at the worked states, over a spread of states, where
 //! states are SPLIT, and on both sides of the edges of that region.
 
-use super::split::{ask_around, edges_of};
+use super::split::edges_on;
 use super::states::{all_ends, FLUID_NUMBERS};
-use super::{of_all_magnitudes, spread_over, unit, FLUIDS, WORKED};
+use super::{of_all_magnitudes, spread_over, unit, WORKED};
 use crate::call::Call;
 use crate::comparison::{Comparison, Outcome};
 use crate::workers::Unit;
@@ -69,15 +69,7 @@ fn any_limits(comparison: &mut Comparison, state: [u64; 3]) -> Outcome {
 /// Both sides of each edge. The longest walks that are known lie just above the upper one at the lowest
 /// temperature, which is that of the first isotherm.
 fn edges(comparison: &mut Comparison, which: u64) -> Outcome {
-    let mut random = Random(which);
-    for (fluid, coldest, critical) in FLUIDS {
-        let millikelvin = coldest + (critical - coldest) * which / ISOTHERMS;
-        for edge in edges_of(comparison, [fluid, millikelvin]) {
-            let edge = [fluid, millikelvin, edge];
-            ask_around(comparison, edge, &mut random, beside_needed)?;
-        }
-    }
-    Ok(())
+    edges_on(comparison, [which, ISOTHERMS], beside_needed)
 }
 
 /// What the walk needs, for the same reason first; limits on both sides of it; one that is enough for each

@@ -13,8 +13,8 @@ use Rattle.roots.specs.Promise.{finding}
 use Rattle.calls.specs.declared.Form.the-variants.{Side}
 use Rattle.calls.specs.Promise.{FindsAs}
 use Rattle.claims.specs.declared.judging.Verdict.the-variants as Verdict
-use Rattle.claims.specs.Claims.{SideRoot}
-use Rattle.claims.specs.Inside.{claimOf, Judges}
+use Rattle.claims.specs.Claims.{claimOf, SideRoot}
+use Rattle.claims.specs.Inside.{Judges}
 use Rattle.claims.proofs.Verdicts.{refused-before-root, refused-by-root}
 use Rattle.claims.proofs.judging.judge.Statement.{statement}
 use Rattle.claims.proofs.judging.judge.Tie as tie
