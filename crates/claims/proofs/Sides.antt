@@ -1,15 +1,16 @@
 -- A claim beside a call for its side (document 02, C-18): it stands exactly where the call is answered with its root, and so for both sides of a ONE state or
--- for neither. Assumes nothing.
+-- for neither. In a SPLIT state that g crosses at the root is not enough. Assumes nothing.
 use mathlib.Core.Path.{_≡_, refl, sym, ap, subst, _∙_}
 use mathlib.Core.Logic.{_↔_}
-use Prim.Native.Nat.{ℕ}
+use Prim.Native.Nat.{ℕ, zero, suc}
 use Rattle.refusals.proofs.Theorems.{none-is-answered, zero-is-answered}
-use Rattle.cubic.specs.Cubic.{ONE}
+use Rattle.cubic.specs.Cubic.{Crossing, ONE, SPLIT, IsKind}
 use Rattle.replies.specs.declared.Reply.{Reply}
 use Rattle.replies.specs.declared.Figures.{Figures}
 use Rattle.replies.specs.declared.sides.SideFigures.{SideFigures}
 use Rattle.replies.specs.Figures.{numberOfKind, figuresOf}
 use Rattle.replies.specs.Sides.{gas, dense, forSide, sideFiguresOf}
+use Rattle.roots.specs.Promise.{Found, HasRoots}
 use Rattle.state.specs.Replies.{Answered, Replies, RepliesForSide}
 use Rattle.state.proofs.Theorems.{one-has-equal-sides, every-side-has-a-reply}
 use Rattle.claims.specs.Claims.{Claim, claimOf, SideRoot, sideChecks, Stands}
@@ -59,3 +60,11 @@ module _ (fluid millikelvin pascals root : ℕ) where
       let gas-told = stands-exactly-as-told (for gas) (of-gas .1) in
       let dense-told = stands-exactly-as-told (for dense) (of-dense .1) in
       (λ stands. dense-told .1 (rw same at (gas-told .0 stands)), λ stands. gas-told .1 (rw (sym same) at (dense-told .0 stands)))
+
+-- g crosses at both roots of a SPLIT state, and neither stands for the other's side
+module _ {fluid millikelvin pascals : ℕ} {found : Found} (roots : HasRoots fluid millikelvin pascals found) (split : IsKind (found .gas) (found .dense) SPLIT) where
+  pub crossing-is-not-enough : (side : ℕ) → let other = forSide side (found .dense) (found .gas) in Crossing (roots .reduced .a) (roots .reduced .b) other × (Stands (claimOf fluid millikelvin pascals side other) → ⊥)
+  crossing-is-not-enough zero =
+      (roots .is-dense .crossing, λ stands. split (side-root-once (record { found = found; roots = roots; is-root = refl }) (stands .is-own)))
+  crossing-is-not-enough (suc side) =
+      (roots .is-gas .crossing, λ stands. split (side-root-once (stands .is-own) (record { found = found; roots = roots; is-root = refl })))
