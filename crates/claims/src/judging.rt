@@ -1,5 +1,5 @@
 // One claim, judged by the root that its side has. To look at g beside the root that is claimed would not be
-// enough: in a SPLIT state it would pass for both sides.
+// enough: in a SPLIT state either root would pass for both sides.
 ghost use Rattle.claims.specs.Claims.{claimOf};
 ghost use Rattle.claims.specs.Inside.{Judges};
 use calls::Form;

@@ -40,7 +40,7 @@ const WORKED: [[u64; 3]; 15] = [
 ];
 
 /// Each fluid's number, its lowest temperature, and the critical one, which for hydrogen is
-/// 43,600 - 2,180,000,000 / 201,594. Above it a state is SPLIT only where t, rounded down, is still 10,000.
+/// 43,600 - 2,180,000,000 / 201,594. Above it SPLIT states were met only where t, rounded down, is still 10,000.
 const FLUIDS: [(u64, u64, u64); ALL.len()] = [
     (0, ALL[0].coldest, 32_786),
     (1, ALL[1].coldest, 154_576),
