@@ -100,12 +100,12 @@ refusal-of-number RootDiffers = refl
 pub number-determines-refusal : (refusal other : Refusal) → numberOfRefusal refusal ≡ numberOfRefusal other → refusal ≡ other
 number-determines-refusal refusal other same = sym (refusal-of-number refusal) ∙ ap refusalOf same ∙ refusal-of-number other
 
--- a number that the way back leads to a refusal of another number is that of none,
+-- a number is no refusal's where the way back from it ends at a refusal of another number;
 pub no-refusal-has : (number : ℕ) → (numberOfRefusal (refusalOf number) ≡ number → ⊥) → (refusal : Refusal) → numberOfRefusal refusal ≡ number → ⊥
 no-refusal-has number unlike refusal is-number =
     unlike (ap numberOfRefusal (sym (ap refusalOf is-number) ∙ refusal-of-number refusal) ∙ is-number)
 
--- as that of an answered call is
+-- so that of an answered call is none's
 pub never-zero : (refusal : Refusal) → numberOfRefusal refusal ≡ 0 → ⊥
 unfolding refusalOf find
 never-zero = no-refusal-has 0 (λ same. omega arith)
