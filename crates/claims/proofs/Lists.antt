@@ -1,5 +1,5 @@
--- A list of claims: what is told of the first so many, one claim more at a time; that it is one thing; and that lengths are all equal or are not. Assumes
--- nothing.
+-- A list of claims: what is told of the first so many, one claim more at a time; that it is one thing; that lengths are all equal or are not; and what is told
+-- of all claims. Assumes nothing.
 use mathlib.Core.Path.{_≡_, refl, sym, _∙_}
 use mathlib.Core.Logic.{_⊎_, inl, inr}
 use mathlib.Core.List.{List}

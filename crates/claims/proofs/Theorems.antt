@@ -77,21 +77,19 @@ module _ {lists : FiveLists} {figures : ClaimsFigures} where
   never-by number without {claim} {refusal} first told is-number =
       number-on-list number (claimChecks (claimAt lists claim)) refusal (without claim) (first .is-first) (sym (ap numberIn told) ∙ is-number)
 
-  -- where all stand or the lengths differ no claim is named, and the caller gets 0
-  pub no-claim-is-zero : Replies lists figures → (figures .number ≡ 0) ⊎ (figures .number ≡ 8) → figures .claim ≡ 0
-  no-claim-is-zero (refuses refusal first told) number = ap claimIn told
-  no-claim-is-zero (answers none (all-stand stand is-answered)) number = ap claimIn is-answered
-  no-claim-is-zero (answers none (one-refused claim refusal first told)) (inl is-0) = absurd (never-by 0 (λ claim. refl) first told is-0)
-  no-claim-is-zero (answers none (one-refused claim refusal first told)) (inr is-8) = absurd (never-by 8 (λ claim. refl) first told is-8)
-
   module _ (replies : Replies lists figures) where
+    where-unequal : UnequalLengths lists → figures ≡ refusedWith 8 0
+    where-unequal unequal = told-once lists figures (refusedWith 8 0) replies (tells-unequal unequal)
+
+    where-all-stand : OneLength lists × StandBefore lists (count lists) → figures ≡ answered
+    where-all-stand (one, stand) = told-once lists figures answered replies (tells-checked one (all-stand stand refl))
+
     checked-where : OneLength lists → Checked lists (count lists) figures
     checked-where one = none-is-answered (lengthChecks lists) (one-length-is-not-unequal one, tt) replies
 
     -- 8 exactly where the lengths differ, whatever the claims are
     pub unequal-exactly : (figures .number ≡ 8) ↔ UnequalLengths lists
-    unequal-exactly =
-        (λ is-8. by-lengths is-8 (one-length-or-not lists), λ unequal. ap numberIn (told-once lists figures (refusedWith 8 0) replies (tells-unequal unequal)))
+    unequal-exactly = (λ is-8. by-lengths is-8 (one-length-or-not lists), λ unequal. ap numberIn (where-unequal unequal))
       where
         never-8 : figures .number ≡ 8 → Checked lists (count lists) figures → ⊥
         never-8 is-8 (all-stand stand is-answered) = let number : _≡_ {A = ℕ} 0 8 = sym (ap numberIn is-answered) ∙ is-8 in omega arith
@@ -103,8 +101,7 @@ module _ {lists : FiveLists} {figures : ClaimsFigures} where
 
     -- 0 exactly where they do not and every claim's root is its side's
     pub all-stand-exactly : (figures .number ≡ 0) ↔ (OneLength lists × StandBefore lists (count lists))
-    all-stand-exactly =
-        (λ is-0. by-lengths is-0 (one-length-or-not lists), λ given. ap numberIn (told-once lists figures answered replies (tells-checked (given .0) (all-stand (given .1) refl))))
+    all-stand-exactly = (λ is-0. by-lengths is-0 (one-length-or-not lists), λ given. ap numberIn (where-all-stand given))
       where
         all : figures .number ≡ 0 → Checked lists (count lists) figures → StandBefore lists (count lists)
         all is-0 (all-stand stand is-answered) = stand
@@ -112,7 +109,12 @@ module _ {lists : FiveLists} {figures : ClaimsFigures} where
 
         by-lengths : figures .number ≡ 0 → OneLength lists ⊎ UnequalLengths lists → OneLength lists × StandBefore lists (count lists)
         by-lengths is-0 (inl one) = (one, all is-0 (checked-where one))
-        by-lengths is-0 (inr unequal) = let number : _≡_ {A = ℕ} 8 0 = sym (unequal-exactly .1 unequal) ∙ is-0 in absurd (omega arith)
+        by-lengths is-0 (inr unequal) = let number : _≡_ {A = ℕ} 8 0 = sym (ap numberIn (where-unequal unequal)) ∙ is-0 in absurd (omega arith)
+
+    -- in both cases no claim is named, and the caller gets 0
+    pub no-claim-is-zero : (figures .number ≡ 0) ⊎ (figures .number ≡ 8) → figures .claim ≡ 0
+    no-claim-is-zero (inl is-0) = ap claimIn (where-all-stand (all-stand-exactly .0 is-0))
+    no-claim-is-zero (inr is-8) = ap claimIn (where-unequal (unequal-exactly .0 is-8))
 
   -- Claims behind the first refused one are not looked at: whatever is there, the same is told.
   pub behind-changes-nothing : Replies lists figures → (figures .number ≡ 0 → ⊥) → (figures .number ≡ 8 → ⊥) → (other : FiveLists) → OneLength other → figures .claim < count other → ((k : ℕ) → k ≤ figures .claim → claimAt other k ≡ claimAt lists k) → Replies other figures

@@ -32,7 +32,7 @@ module _ {claim : Claim} where
   pub refused-by-root : NoneOf (sideChecks claim) → claims.RootDiffers claim → FirstOf (claimChecks claim) 14
   refused-by-root none differs = first-behind (sideChecks claim) (rootChecks claim) 14 none (inl (differs, refl))
 
-  pub standing-is-not-refused : Stands claim → NoneOf (claimChecks claim)
+  standing-is-not-refused : Stands claim → NoneOf (claimChecks claim)
   standing-is-not-refused stands =
       none-both (sideChecks claim) (rootChecks claim) (stands .accepted) (λ differs. differs .differs (side-root-once (stands .is-own) (differs .is-own)), tt)
 
