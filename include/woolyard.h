@@ -28,6 +28,9 @@ extern "C" {
 #define WOOLYARD_SHEET_MALFORMED 6        /* sheet badly formed */
 #define WOOLYARD_SHEET_TOO_LONG 7         /* sheet longer than 65,536 bytes */
 #define WOOLYARD_LENGTHS_DIFFER 8         /* lists of claims of unequal lengths */
+#define WOOLYARD_LISTS_UNFIT 8            /* a list above 1000 numbers for a sheet, or a fluid's two lists of unequal lengths */
+#define WOOLYARD_TOO_MANY_DIGITS 9        /* a number above ten digits for a sheet */
+#define WOOLYARD_NO_ROOM 10               /* the sheet to be written is longer than the buffer or than 65,536 bytes */
 #define WOOLYARD_WALK_CUT_SHORT 11        /* the limit of values is below what the walk needs */
 #define WOOLYARD_NO_SUCH_SIDE 12          /* side is neither 0 nor 1 */
 #define WOOLYARD_SCALING_OUT_OF_RANGE 13  /* a scaling below 500 or above 1500 thousandths, or the lower one not first */
@@ -80,9 +83,10 @@ extern "C" {
 #define WOOLYARD_SCALING_MOST 1500
 #define WOOLYARD_SCALING_NONE 1000
 
-/* How many bytes a book has, and how many a sheet may have. */
+/* How many bytes a book has, how many a sheet may have, and how many states one of its sections. */
 #define WOOLYARD_BOOK_BYTES 192
 #define WOOLYARD_SHEET_MOST_BYTES 65536
+#define WOOLYARD_SECTION_MOST_STATES 1000
 
 /* The reply to a state: its five figures, which are zeros where it is refused.
  * Answers 0, 1, 21, 22, 31 or 32; the first refusal in this order that applies is given. */
@@ -161,6 +165,21 @@ uint64_t woolyard_sheet(const uint8_t *sheet, size_t length, uint64_t reading[3]
  * in range or not; zeros where refused. Answers 0, 6, 7 or 16: 7 comes before 6, and 6 before 16, which is given exactly when the sheet is
  * good and k is not below the number of state lines. */
 uint64_t woolyard_sheet_line(const uint8_t *sheet, size_t length, uint64_t k, uint64_t state[3]);
+
+/* Writes a sheet: for each fluid a list of temperatures in millikelvin and a list of pressures in pascals, of which state k, counted from 0,
+ * has number k of both. The sheet is written to the first bytes of the buffer, section by section with its count, and the bytes behind it stay
+ * as they were. woolyard_sheet_line reads the same numbers back; and what it reads of a good sheet is written as the very bytes of that one.
+ * States out of range are written too. The lists may hold any numbers, and are only read.
+ * Answers 0, or one of these refusals, the first in this order that applies, and then no byte of the buffer is written: 8 where a list is above
+ * 1000 numbers, or the two lists of a fluid are of unequal lengths; 9 where a number is above ten digits, which is above 9,999,999,999; 10 where
+ * the whole sheet is longer than the buffer or than 65,536 bytes. It is the sheet's own length that counts, so a buffer of just that length is
+ * enough; and one of WOOLYARD_SHEET_MOST_BYTES has room for every sheet that can be written.
+ *   *length  how many bytes the sheet has; 0 where refused */
+uint64_t woolyard_write_sheet(const uint64_t *hydrogen_millikelvin, size_t hydrogen_millikelvin_length, const uint64_t *hydrogen_pascals,
+                              size_t hydrogen_pascals_length, const uint64_t *oxygen_millikelvin, size_t oxygen_millikelvin_length,
+                              const uint64_t *oxygen_pascals, size_t oxygen_pascals_length, const uint64_t *nitrogen_millikelvin,
+                              size_t nitrogen_millikelvin_length, const uint64_t *nitrogen_pascals, size_t nitrogen_pascals_length,
+                              uint8_t *buffer, size_t buffer_length, uint64_t *length);
 
 #ifdef __cplusplus
 }

@@ -8,11 +8,11 @@
 long read(int file, void *bytes, unsigned long length);
 long write(int file, const void *bytes, unsigned long length);
 
-/* The words of a call. What it lends follows, filled up to whole words. The reply's number takes the place
- * of the function's. */
-enum { FUNCTION, FIRST, SECOND, THIRD, FOURTH, FIFTH, LENGTH, LENT_BYTES, PLACES, LENT = PLACES + 5 };
+/* The words of a call. What it lends follows, first numbers and then bytes, filled up to whole words. The
+ * reply's number takes the place of the function's. */
+enum { FUNCTION, FIRST, SECOND, THIRD, FOURTH, FIFTH, SIXTH, LENGTH, LENT_NUMBERS, LENT_BYTES, PLACES, LENT = PLACES + 5 };
 
-enum { STATE, STATE_WITH_BOOK, SIDE, SIDE_WITH_BOOK, WALK, BAND, CLAIMS, HEAT, HEAT_TABLE, VISCOSITY, SHEET, SHEET_LINE };
+enum { STATE, STATE_WITH_BOOK, SIDE, SIDE_WITH_BOOK, WALK, BAND, CLAIMS, HEAT, HEAT_TABLE, VISCOSITY, SHEET, SHEET_LINE, WRITE_SHEET };
 
 #define WORDS 524288
 
@@ -32,20 +32,36 @@ static uint64_t heat(uint64_t kelvin_pattern, uint64_t *place)
     return number;
 }
 
-/* Five lists are lent, with room for as many numbers each, one behind the other. The arguments are their lengths. */
+/* The numbers that are lent are lists with room for as many each, one behind the other. The arguments are their
+ * lengths. */
 static uint64_t claims(uint64_t *call)
 {
     const uint64_t *lists = call + LENT;
-    size_t room = call[LENT_BYTES] / (5 * sizeof *lists);
+    size_t room = call[LENT_NUMBERS] / 5;
     return woolyard_claims(lists, call[FIRST], lists + room, call[SECOND], lists + 2 * room, call[THIRD], lists + 3 * room,
                            call[FOURTH], lists + 4 * room, call[FIFTH], call + PLACES);
+}
+
+static uint64_t write_sheet(uint64_t *call, uint8_t *buffer)
+{
+    const uint64_t *lists = call + LENT;
+    size_t room = call[LENT_NUMBERS] / 6;
+    return woolyard_write_sheet(lists, call[FIRST], lists + room, call[SECOND], lists + 2 * room, call[THIRD],
+                                lists + 3 * room, call[FOURTH], lists + 4 * room, call[FIFTH], lists + 5 * room,
+                                call[SIXTH], buffer, call[LENGTH], call + PLACES);
+}
+
+/* How many words a call takes, with what it lends. */
+static size_t words_of(const uint64_t *call)
+{
+    return LENT + call[LENT_NUMBERS] + (call[LENT_BYTES] + 7) / 8;
 }
 
 /* Makes the call that begins at this word. */
 static uint64_t make(size_t word)
 {
     uint64_t *call = batch.words + word;
-    uint8_t *lent = batch.bytes + 8 * (word + LENT);
+    uint8_t *lent = batch.bytes + 8 * (word + LENT + call[LENT_NUMBERS]);
     switch (call[FUNCTION]) {
     case STATE:
         return woolyard_state(call[FIRST], call[SECOND], call[THIRD], call + PLACES);
@@ -71,8 +87,10 @@ static uint64_t make(size_t word)
         return woolyard_viscosity(call[FIRST], call + PLACES);
     case SHEET:
         return woolyard_sheet(lent, call[LENGTH], call + PLACES);
-    default:
+    case SHEET_LINE:
         return woolyard_sheet_line(lent, call[LENGTH], call[FIRST], call + PLACES);
+    default:
+        return write_sheet(call, lent);
     }
 }
 
@@ -107,7 +125,7 @@ int main(void)
         uint64_t length = batch.words[0];
         if (length > sizeof batch || !take(batch.bytes, length))
             return 1;
-        for (size_t word = 0; 8 * word < length; word += LENT + (batch.words[word + LENT_BYTES] + 7) / 8)
+        for (size_t word = 0; 8 * word < length; word += words_of(batch.words + word))
             batch.words[word + FUNCTION] = make(word);
         if (!give(batch.bytes, length))
             return 1;

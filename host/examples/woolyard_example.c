@@ -1,5 +1,5 @@
 /* The header in use: a state, one side of it, the state with a book, another fluid, a walk, a band, claims, refusals, the heat capacity, the
- * heat table, the excess viscosity factor, a sheet and its lines, and a faulty sheet. */
+ * heat table, the excess viscosity factor, a sheet and its lines, a faulty sheet, and a sheet written from rows, with the answers to it. */
 #include "woolyard.h"
 #include <inttypes.h>
 #include <stdio.h>
@@ -14,6 +14,38 @@ static void print_sheet(const char *text, size_t length)
         printf("sheet: %" PRIu64 " state lines\n", reading[0]);
     for (uint64_t k = 0; woolyard_sheet_line(sheet, length, k, state) == WOOLYARD_ANSWERED; k++)
         printf("  fluid %" PRIu64 ", %" PRIu64 " mK, %" PRIu64 " Pa\n", state[0], state[1], state[2]);
+}
+
+/* Rows of a spreadsheet, each a fluid, a temperature and a pressure, four at most: two lists for each fluid are made of them. */
+static uint64_t write_rows(const uint64_t (*rows)[3], size_t count, uint8_t *buffer, size_t room, uint64_t *length)
+{
+    uint64_t millikelvin[3][4], pascals[3][4];
+    size_t counts[3] = { 0 };
+    for (; count > 0; count--, rows++) {
+        uint64_t fluid = (*rows)[0];
+        millikelvin[fluid][counts[fluid]] = (*rows)[1];
+        pascals[fluid][counts[fluid]++] = (*rows)[2];
+    }
+    return woolyard_write_sheet(millikelvin[0], counts[0], pascals[0], counts[0], millikelvin[1], counts[1], pascals[1], counts[1],
+                                millikelvin[2], counts[2], pascals[2], counts[2], buffer, room, length);
+}
+
+/* As the program `sheet` prints them. */
+static void print_answers(const uint8_t *sheet, size_t length)
+{
+    uint64_t state[3], figures[5];
+    for (uint64_t k = 0; woolyard_sheet_line(sheet, length, k, state) == WOOLYARD_ANSWERED; k++) {
+        uint64_t number = woolyard_state(state[0], state[1], state[2], figures);
+        if (number != WOOLYARD_ANSWERED) {
+            printf("  NO %" PRIu64 "\n", number);
+            continue;
+        }
+        int split = figures[WOOLYARD_KIND] == WOOLYARD_KIND_SPLIT;
+        printf("  %s %" PRIu64 " %" PRIu64, split ? "SPLIT" : "ONE", figures[WOOLYARD_GAS_ROOT], figures[WOOLYARD_GAS_DENSITY]);
+        if (split)
+            printf(" %" PRIu64 " %" PRIu64, figures[WOOLYARD_DENSE_ROOT], figures[WOOLYARD_DENSE_DENSITY]);
+        printf("\n");
+    }
 }
 
 int main(void)
@@ -86,5 +118,17 @@ int main(void)
     static const char faulty[] = "0\n1\n120000\n0\n";
     print_sheet(good, sizeof good - 1);
     print_sheet(faulty, sizeof faulty - 1);
+
+    static const uint64_t rows[4][3] = { { WOOLYARD_OXYGEN, 300000, 1000000 },
+                                         { WOOLYARD_PARAHYDROGEN, 300000, 1000000 },
+                                         { WOOLYARD_OXYGEN, 120000, 500000 },
+                                         { WOOLYARD_OXYGEN, 55999, 500000 } };
+    static uint8_t buffer[WOOLYARD_SHEET_MOST_BYTES];
+    uint64_t length, refused_length;
+    number = write_rows(rows, 4, buffer, sizeof buffer, &length);
+    printf("sheet written from four rows: reply %" PRIu64 ", %" PRIu64 " bytes\n", number, length);
+    print_answers(buffer, length);
+    number = write_rows(rows, 4, buffer, length - 1, &refused_length);
+    printf("with room for one byte less: reply %" PRIu64 "\n", number);
     return 0;
 }

@@ -8,11 +8,13 @@ import sys
 from ctypes import byref, c_double, c_size_t, c_uint8, c_uint64
 
 ANSWERED, SHEET_MALFORMED = 0, 6
-OXYGEN, NITROGEN, GAS, DENSE, KIND_SPLIT, BOOK_BYTES, WALK_ENOUGH = 1, 2, 0, 1, 2, 192, 100001
+PARAHYDROGEN, OXYGEN, NITROGEN, GAS, DENSE, KIND_SPLIT = 0, 1, 2, 0, 1, 2
+BOOK_BYTES, WALK_ENOUGH, SHEET_MOST_BYTES = 192, 100001, 65536
 
 woolyard = ctypes.CDLL(sys.argv[1])
 Figures, SideFigures, Walked, Roots = c_uint64 * 5, c_uint64 * 2, c_uint64 * 2, c_uint64 * 2
-Two, Three, Book = c_uint64 * 2, c_uint64 * 3, c_uint8 * BOOK_BYTES
+Two, Three, Book, Buffer = c_uint64 * 2, c_uint64 * 3, c_uint8 * BOOK_BYTES, c_uint8 * SHEET_MOST_BYTES
+Numbers = ctypes.POINTER(c_uint64)
 woolyard.woolyard_state.argtypes = [c_uint64, c_uint64, c_uint64, Figures]
 woolyard.woolyard_state_with_book.argtypes = [c_uint64, c_uint64, c_uint64, c_uint64, Book, c_size_t, Figures]
 woolyard.woolyard_side.argtypes = [c_uint64, c_uint64, c_uint64, c_uint64, SideFigures]
@@ -24,22 +26,51 @@ woolyard.woolyard_heat_table.argtypes = [c_uint64, ctypes.POINTER(c_uint64)]
 woolyard.woolyard_viscosity.argtypes = [c_uint64, ctypes.POINTER(c_uint64)]
 woolyard.woolyard_sheet.argtypes = [ctypes.c_char_p, c_size_t, Three]
 woolyard.woolyard_sheet_line.argtypes = [ctypes.c_char_p, c_size_t, c_uint64, Three]
-for name in ("state", "state_with_book", "side", "walk", "band", "claims", "heat", "heat_table", "viscosity", "sheet", "sheet_line"):
+woolyard.woolyard_write_sheet.argtypes = [Numbers, c_size_t] * 6 + [Buffer, c_size_t, Numbers]
+for name in "state state_with_book side walk band claims heat heat_table viscosity sheet sheet_line write_sheet".split():
     getattr(woolyard, f"woolyard_{name}").restype = c_uint64
 
 
 def print_sheet(sheet):
-    reading, state = Three(), Three()
+    reading = Three()
     number = woolyard.woolyard_sheet(sheet, len(sheet), reading)
     count, place, length = reading
     if number == SHEET_MALFORMED:
         print(f'sheet: byte {place} begins the faulty line "{sheet[place : place + length].decode()}"')
     else:
         print(f"sheet: {count} state lines")
-    k = 0
-    while woolyard.woolyard_sheet_line(sheet, len(sheet), k, state) == ANSWERED:
+    for state in states_of(sheet):
         print("  fluid {}, {} mK, {} Pa".format(*state))
+
+
+def states_of(sheet):
+    state, k = Three(), 0
+    while woolyard.woolyard_sheet_line(sheet, len(sheet), k, state) == ANSWERED:
+        yield tuple(state)
         k += 1
+
+
+def write_rows(rows, buffer, room):
+    """Rows of a spreadsheet, each a fluid, a temperature and a pressure: two lists for each fluid are made of them."""
+    lists = [[row[number] for row in rows if row[0] == fluid] for fluid in range(3) for number in (1, 2)]
+    lent = [((c_uint64 * len(numbers))(*numbers), len(numbers)) for numbers in lists]
+    length = c_uint64()
+    number = woolyard.woolyard_write_sheet(*sum(lent, ()), buffer, room, byref(length))
+    return number, length.value
+
+
+def print_answers(sheet):
+    """As the program `sheet` prints them."""
+    figures = Figures()
+    for state in states_of(sheet):
+        number = woolyard.woolyard_state(*state, figures)
+        kind, gas_root, dense_root, gas_density, dense_density = figures
+        if number != ANSWERED:
+            print(f"  NO {number}")
+        elif kind == KIND_SPLIT:
+            print(f"  SPLIT {gas_root} {gas_density} {dense_root} {dense_density}")
+        else:
+            print(f"  ONE {gas_root} {gas_density}")
 
 
 figures = Figures()
@@ -105,3 +136,16 @@ print(f"at 0.099 of it: reply {number}")
 
 print_sheet(b"1\n300000 1000000\n2\n120000 500000\n55999 500000\n1\n90000 300000\n")
 print_sheet(b"0\n1\n120000\n0\n")
+
+rows = [
+    (OXYGEN, 300000, 1000000),
+    (PARAHYDROGEN, 300000, 1000000),
+    (OXYGEN, 120000, 500000),
+    (OXYGEN, 55999, 500000),
+]
+buffer = Buffer()
+number, length = write_rows(rows, buffer, SHEET_MOST_BYTES)
+print(f"sheet written from four rows: reply {number}, {length} bytes")
+print_answers(bytes(buffer[:length]))
+number, _ = write_rows(rows, buffer, length - 1)
+print(f"with room for one byte less: reply {number}")

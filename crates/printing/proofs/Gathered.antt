@@ -6,7 +6,6 @@ use native.Mathlib.Omega.{arith}
 use lib.ListN.{length, take, length-append}
 use lib.Seq.{length-take-le}
 use Rattle.io.specs.Counts.{Counts}
-use Rattle.refusals.specs.Checks.{answers}
 use Rattle.sheets.specs.declared.State.{State}
 use Rattle.sheets.specs.declared.Cursor.{Cursor}
 use Rattle.sheets.specs.declared.Next.{Next}
@@ -16,7 +15,7 @@ use Rattle.readings.specs.declared.Reading.the-variants.{StateLines, Malformed,
 use Rattle.sheets.specs.Grammar.{allSections, sumOfCounts}
 use Rattle.sheets.specs.Reading.{start, Comes}
 use Rattle.readings.specs.Readers as readers
-use Rattle.readings.proofs.Answers.{good-passes, long-told, fault-told}
+use Rattle.readings.proofs.Answers.{good-told, long-told, fault-told}
 use Rattle.readings.proofs.Nexts.{NextIn}
 use Rattle.sheets.proofs.Passed.{Passed, none-passed, one-passed, all-passed}
 use Rattle.sheets.proofs.Written.{read-good}
@@ -84,7 +83,7 @@ module _ {bytes before : List ℕ} {cursor : Cursor} {buffer : List ℕ} {end : 
         counts buffer end within,
         record {
           reading = StateLines (sumOfCounts (written .lists));
-          reads-as = answers (good-passes bytes (written .lists) (next .fits) (written .good)) (record { lists = written .lists; good = written .good; is-told = refl });
+          reads-as = good-told bytes (written .lists) (next .fits) (written .good);
           is-text =
               record {
                 lists = written .lists;

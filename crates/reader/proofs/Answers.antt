@@ -2,24 +2,23 @@
 use mathlib.Core.Path.{_≡_, refl, sym, ap, subst, _∙_}
 use mathlib.Core.Logic.{inl}
 use mathlib.Core.List.{List, [], _∷_}
-use mathlib.Core.Option.{Option, some, Option·map}
+use mathlib.Core.Option.{Option, some}
 use Prim.Native.Nat.{ℕ, zero, suc, _+_, _≤_, _<_}
 use native.Mathlib.Nat.{not-suc-le-zero, le-of-suc-le-suc}
 use native.Mathlib.Omega.{arith}
 use lib.ListN.{length, getD, getElem?}
-use Rattle.refusals.specs.Checks.{_if_, refuses, answers}
-use Rattle.refusals.proofs.Lists.{none-both, first-behind}
+use Rattle.refusals.specs.Checks.{_if_, refuses}
+use Rattle.refusals.proofs.Lists.{first-behind}
 use Rattle.sheets.specs.declared.State.{State}
 use Rattle.sheets.specs.Grammar.{allSections, sumOfCounts}
 use Rattle.sheets.proofs.Written.{Written, read-good, states-counted}
-use Rattle.sheets.proofs.Theorems.{written-once}
 use Rattle.readings.specs.declared.Reading.{Reading}
 use Rattle.readings.specs.declared.Reading.the-variants as Reading
 use Rattle.readings.specs.declared.LineReading.the-variants as LineReading
-use Rattle.readings.specs.Figures.{sheetAnswered, sheetFigures, lineAnswered, lineFigures}
+use Rattle.readings.specs.Figures.{sheetFigures, lineFigures}
 use Rattle.readings.specs.Readers.{NoLine, sheetChecks}
 use Rattle.readings.specs.Replies.{ReadsAs, LineReadsAs, shown, ShowsBack}
-use Rattle.readings.proofs.Answers.{good-passes, long-told, fault-told}
+use Rattle.readings.proofs.Answers.{good-passes, good-told, good-line-told, long-told, fault-told}
 use Rattle.reader.specs.Inside.{zeros, Counted, Finds}
 
 getD-getElem : (states : List State) (k : ℕ) → k < length states → getElem? states k ≡ some (getD states k zeros)
@@ -36,23 +35,14 @@ module _ (bytes : List ℕ) (k : ℕ) where
     is-sum = found .is-count ∙ ap length (written .are-states) ∙ states-counted 0 (written .lists)
 
     pub counted : ReadsAs bytes (sheetFigures (Reading.StateLines count))
-    counted =
-        answers (good-passes bytes (written .lists) (found .fits) (written .good))
-        (record { lists = written .lists; good = written .good; is-told = ap (λ (n : ℕ). some (sheetAnswered n)) (sym is-sum) })
+    counted = rw is-sum (good-told bytes (written .lists) (found .fits) (written .good))
 
     pub line-found : k < count → LineReadsAs bytes k (lineFigures (LineReading.State state))
     line-found below =
-        let inside : k < length (found .states) = omega (arith, found .is-count) in
-        answers
-        (none-both (sheetChecks allSections bytes) (16 if NoLine allSections bytes k ∷ []) (good-passes bytes (written .lists) (found .fits) (written .good))
-        (λ no-line. omega (arith, is-sum, no-line .few, ap sumOfCounts (written-once bytes (no-line .lists) (written .lists) (no-line .good) (written .good))), tt))
-        (record {
-          lists = written .lists;
-          good = written .good;
-          is-told =
-              ap (λ (l : List State). Option·map lineAnswered (getElem? l k)) (sym (written .are-states))
-              ∙ ap (Option·map lineAnswered) (getD-getElem (found .states) k inside ∙ ap {B = Option State} some (sym (found .is-state)));
-        })
+        good-line-told bytes (written .lists) (found .fits) (written .good) k (omega (arith, is-sum))
+        (ap (λ (l : List State). getElem? l k) (sym (written .are-states))
+        ∙ getD-getElem (found .states) k (omega (arith, found .is-count))
+        ∙ ap {B = Option State} some (sym (found .is-state)))
 
     pub line-missing : count ≤ k → LineReadsAs bytes k (lineFigures LineReading.NoSuchLine)
     line-missing above =

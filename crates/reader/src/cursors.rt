@@ -5,11 +5,10 @@ ghost use Rattle.sheets.specs.Reading.{start};
 ghost use Rattle.readings.specs.Figures.{nextFigures};
 ghost use Rattle.readings.specs.Replies.{NextIs};
 use lines::line_at;
+use readings::MOST_BYTES;
 use sheets::Cursor;
 use sheets::Line;
 use sheets::Next;
-
-const MOST_BYTES: usize = 65_536;
 
 // Where every walk begins.
 pub fn start() -> Cursor

@@ -2,19 +2,22 @@
 use mathlib.Core.Path.{_≡_, refl, sym, ap, _∙_}
 use mathlib.Core.Logic.{inl, inr}
 use mathlib.Core.Bool.{Bool, true, false, cond}
-use mathlib.Core.List.{List, _++_}
-use mathlib.Core.Option.{Option, Option·some-injective}
-use Prim.Native.Nat.{ℕ, _≤_}
+use mathlib.Core.List.{List, [], _∷_, _++_}
+use mathlib.Core.Option.{Option, some, Option·map, Option·some-injective}
+use Prim.Native.Nat.{ℕ, _≤_, _<_}
 use native.Mathlib.Omega.{arith}
 use lib.Dec.{eqb}
-use lib.ListN.{length}
-use Rattle.refusals.specs.Checks.{Check, NoneOf, Tells, refuses}
+use lib.ListN.{length, getElem?}
+use Rattle.refusals.specs.Checks.{Check, _if_, NoneOf, Tells, refuses, answers}
+use Rattle.refusals.proofs.Lists.{none-both}
 use Rattle.refusals.proofs.Theorems.{tells-once}
-use Rattle.sheets.specs.Grammar.{Pair, Good}
+use Rattle.sheets.specs.declared.State.{State}
+use Rattle.sheets.specs.Grammar.{Pair, Good, statesFrom, sumOfCounts}
 use Rattle.sheets.specs.Reading.{FaultAt}
 use Rattle.sheets.proofs.Faults.{good-has-no-fault, fault-once}
 use Rattle.sheets.proofs.Theorems.{written-once}
-use Rattle.readings.specs.Readers.{mostBytes, TooLong, sheetChecks, Refused, FromLists}
+use Rattle.readings.specs.Figures.{sheetAnswered, lineAnswered}
+use Rattle.readings.specs.Readers.{mostBytes, TooLong, NoLine, sheetChecks, Refused, FromLists, TellsSheet, TellsLine}
 
 pub not-long : (bytes : List ℕ) → length bytes ≤ mostBytes → TooLong bytes → ⊥
 not-long bytes fits long = omega arith
@@ -26,6 +29,18 @@ place-once sections bytes false place place′ none none′ = none ∙ sym none�
 module _ {sections : ℕ} (bytes : List ℕ) where
   pub good-passes : (lists : List (List Pair)) → length bytes ≤ mostBytes → Good sections bytes lists → NoneOf (sheetChecks sections bytes)
   good-passes lists fits good = (not-long bytes fits, (λ no-sheet. no-sheet lists good, tt))
+
+  -- what is told of a good sheet of no more bytes than allowed, and of one of its lines
+  module _ (lists : List (List Pair)) (fits : length bytes ≤ mostBytes) (good : Good sections bytes lists) where
+    pub good-told : TellsSheet sections bytes (sheetAnswered (sumOfCounts lists))
+    good-told = answers (good-passes lists fits good) (record { lists = lists; good = good; is-told = refl })
+
+    pub good-line-told : (k : ℕ) {state : State} → k < sumOfCounts lists → getElem? (statesFrom 0 lists) k ≡ some state → TellsLine sections bytes k (lineAnswered state)
+    good-line-told k below is-state =
+        answers
+        (none-both (sheetChecks sections bytes) (16 if NoLine sections bytes k ∷ []) (good-passes lists fits good)
+        (λ no-line. omega (arith, no-line .few, ap sumOfCounts (written-once bytes (no-line .lists) lists (no-line .good) good)), tt))
+        (record { lists = lists; good = good; is-told = ap (Option·map lineAnswered) is-state })
 
   -- 7 and 6 are told alike, whatever else is checked
   module _ {Figures : Type 0} {more : List Check} {told : (number place : ℕ) → Figures} {Answers : Figures → Type 0} where

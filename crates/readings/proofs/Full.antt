@@ -1,18 +1,16 @@
 -- Three full sections can pass the most bytes of a sheet, and are then refused by 7; a sheet of exactly the most bytes is answered. All lines
 -- but one are the longest. Assumes nothing.
-use mathlib.Core.Path.{_≡_, refl, ap}
+use mathlib.Core.Path.{_≡_, refl, ap, subst}
 use mathlib.Core.List.{List, [], _∷_}
-use mathlib.Core.Option.{some}
 use Prim.Native.Nat.{ℕ, zero, suc, _+_, _*_}
 use native.Mathlib.Omega.{arith}
 use lib.ListN.{length, replicate, length-replicate, length-append}
-use Rattle.refusals.specs.Checks.{answers}
 use Rattle.sheets.specs.Grammar.{allSections, mostStates, digits, decimal, Pair, pairText, line, stateLines, section, sheet, EachWritable, EachSection, Good, sumOfCounts}
 use Rattle.sheets.proofs.Written.{none-written}
 use Rattle.readings.specs.declared.Reading.the-variants as Reading
 use Rattle.readings.specs.Figures.{sheetAnswered, sheetFigures}
 use Rattle.readings.specs.Replies.{ReadsAs}
-use Rattle.readings.proofs.Answers.{good-passes, long-told}
+use Rattle.readings.proofs.Answers.{good-told, long-told}
 
 abbrev longest : Pair
 longest = record { millikelvin = 9999999999; pascals = 9999999999 }
@@ -86,5 +84,4 @@ largest-sheet-has-65536-bytes = omega (arith, full-long (full ∷ last ∷ []), 
 pub largest-sheet-is-answered : ReadsAs (sheet largestSheet) (sheetFigures (Reading.StateLines 2979))
 largest-sheet-is-answered =
     let count : sumOfCounts largestSheet ≡ 2979 = omega (arith, length-replicate mostStates longest, length-replicate 978 longest) in
-    answers (good-passes (sheet largestSheet) largestSheet (omega (arith, largest-sheet-has-65536-bytes)) largest-sheet-is-good)
-    (record { lists = largestSheet; good = largest-sheet-is-good; is-told = ap (λ (n : ℕ). some (sheetAnswered n)) count })
+    subst (λ (n : ℕ). ReadsAs (sheet largestSheet) (sheetAnswered n)) count (good-told (sheet largestSheet) largestSheet (omega (arith, largest-sheet-has-65536-bytes)) largest-sheet-is-good)

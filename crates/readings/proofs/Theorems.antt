@@ -25,7 +25,7 @@ use Rattle.readings.specs.Figures.{sheetRefused, sheetFigures, lineRefus
 use Rattle.readings.specs.Readers.{mostBytes, NoSheet, sheetChecks, lineChecks, countOf, lineIn, TellsSheet, TellsLine, TellsNext}
 use Rattle.readings.specs.Replies.{shown, ShowsBack}
 use Rattle.readings.proofs.Figures.{same-reading, same-line}
-use Rattle.readings.proofs.Answers.{good-passes, long-told, fault-told, told-once}
+use Rattle.readings.proofs.Answers.{good-told, long-told, fault-told, told-once}
 use Rattle.readings.proofs.Nexts.{next-once}
 
 pub record Answered (sections : ℕ) (bytes : List ℕ) : Type 0 where
@@ -55,7 +55,7 @@ module _ {sections : ℕ} (bytes : List ℕ) where
     where
       short-or-long : Dec (length bytes ≤ mostBytes) → ((lists : List (List Pair)) × Good sections bytes lists) ⊎ ((place : ℕ) × FaultAt sections bytes place) → Answered sections bytes
       short-or-long (yes short) (inl (lists, good)) =
-          record { reading = Reading.StateLines (sumOfCounts lists); reads-as = answers (good-passes bytes lists short good) (record { lists = lists; good = good; is-told = refl }) }
+          record { reading = Reading.StateLines (sumOfCounts lists); reads-as = good-told bytes lists short good }
       short-or-long (yes short) (inr (place, fault)) = record { reading = Reading.Malformed place; reads-as = fault-told bytes place short fault }
       short-or-long (no long) either = record { reading = Reading.TooLong; reads-as = long-told bytes (omega arith) }
 

@@ -3,6 +3,9 @@ ghost use mathlib.Core.Path.{_≡_};
 ghost use Rattle.readings.specs.Figures.{sheetFigures, lineFigures, lineRefused};
 use sheets::State;
 
+// Of a sheet that is read or written.
+pub const MOST_BYTES: usize = 65_536;
+
 // A whole sheet: how many state lines it has, or its refusal.
 pub enum Reading {
     StateLines(u64),

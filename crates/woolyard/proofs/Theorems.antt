@@ -33,6 +33,9 @@ use Rattle.readings.specs.declared.LineReading.{LineReading}
 use Rattle.readings.specs.Figures.{sheetFigures, lineFigures}
 use Rattle.readings.specs.Replies.{shown}
 use Rattle.readings.proofs.Theorems as replies
+use Rattle.measures.specs.Columns.{Columns}
+use Rattle.writer.specs.Replies.{Left}
+use Rattle.writer.proofs.Theorems as writer
 use Rattle.woolyard.specs.States.{fiveOf, Laid, StateAnswers, BookAnswers}
 use Rattle.woolyard.specs.Sides.{twoOf, SideLaid, SideAnswers, SideBookAnswers}
 use Rattle.woolyard.specs.Walks.{walkedOf, WalkAnswers}
@@ -42,6 +45,7 @@ use Rattle.woolyard.specs.Claims.{ClaimsAnswers}
 use Rattle.woolyard.specs.HeatTables.{HeatTableAnswers}
 use Rattle.woolyard.specs.Viscosities.{ViscosityAnswers}
 use Rattle.woolyard.specs.Sheets.{readingOf, SheetAnswers, stateOf, LineAnswers}
+use Rattle.woolyard.specs.Writes.{WriteAnswers}
 
 -- One law for all calls: what two replies that are equal tell is equal.
 told-alike : {Told Laid : Type 0} (number-of : Told → ℕ) (laid-of : Told → Laid) {reply other : Told} {number number′ : ℕ} {laid laid′ : Laid} → reply ≡ other → number ≡ number-of reply → number′ ≡ number-of other → laid ≡ laid-of reply → laid′ ≡ laid-of other → (number ≡ number′) × (laid ≡ laid′)
@@ -174,3 +178,16 @@ module _ (bytes : List ℕ) where
   sheet-line-determined k number number′ state state′ p q =
       told-alike (λ (r : LineReading). lineFigures r .number) (λ (r : LineReading). stateOf (lineFigures r))
       (replies.line-determined bytes k (p .reply) (q .reply) (p .reads-as) (q .reads-as)) (p .is-number) (q .is-number) (p .is-state) (q .is-state)
+
+-- ---- sheets that are written
+module _ (fluids : List Columns) (before : List ℕ) where
+  pub write-determined : {number number′ length length′ : ℕ} {after after′ : List ℕ} → WriteAnswers fluids before number length after → WriteAnswers fluids before number′ length′ after′ → (number ≡ number′) × (length ≡ length′) × (after ≡ after′)
+  write-determined p q =
+      let same = writer.write-determined fluids before _ _ p q in
+      (ap (λ (l : Left). l .figures .number) same, ap (λ (l : Left). l .figures .length) same, ap (λ (l : Left). l .buffer) same)
+
+  pub refused-writes-nothing : {number length : ℕ} {after : List ℕ} → WriteAnswers fluids before number length after → (number ≡ 0 → ⊥) → (after ≡ before) × (length ≡ 0)
+  refused-writes-nothing = writer.refused-writes-nothing fluids before
+
+  pub beyond-stays : {number length : ℕ} {after : List ℕ} → WriteAnswers fluids before number length after → writer.Beyond before length after
+  beyond-stays = writer.beyond-stays fluids before

@@ -8,3 +8,4 @@ pub mod Heats
 pub mod HeatTables
 pub mod Viscosities
 pub mod Sheets
+pub mod Writes

@@ -13,6 +13,8 @@ ghost use Rattle.woolyard.specs.Heats.{HeatAnswers};
 ghost use Rattle.woolyard.specs.HeatTables.{HeatTableAnswers};
 ghost use Rattle.woolyard.specs.Viscosities.{ViscosityAnswers};
 ghost use Rattle.woolyard.specs.Sheets.{SheetAnswers, LineAnswers};
+ghost use Rattle.measures.specs.Columns.{fluidsOf};
+ghost use Rattle.woolyard.specs.Writes.{WriteAnswers};
 use crate::layout::faulty_line_length;
 use crate::layout::lay_figures;
 use crate::layout::lay_side;
@@ -194,5 +196,33 @@ pub extern "C" fn woolyard_sheet_line(sheet: &[u8], k: u64, state: &mut [u64; 3]
     let reply = reader::state_line(sheet, k);
     let told = reply.figures();
     *state = [told.fluid, told.millikelvin, told.pascals];
+    told.number
+}
+
+// A sheet written from lists: the buffer gets it, and the caller's place its length.
+#[no_mangle]
+pub extern "C" fn woolyard_write_sheet(
+    hydrogen_millikelvin: &[u64],
+    hydrogen_pascals: &[u64],
+    oxygen_millikelvin: &[u64],
+    oxygen_pascals: &[u64],
+    nitrogen_millikelvin: &[u64],
+    nitrogen_pascals: &[u64],
+    buffer: &mut [u8],
+    length: &mut u64,
+) -> u64
+    ensures { λ r. ⌜ WriteAnswers (fluidsOf (now («hydrogen_millikelvin» .entry)) (now («hydrogen_pascals» .entry)) (now («oxygen_millikelvin» .entry)) (now («oxygen_pascals» .entry)) (now («nitrogen_millikelvin» .entry)) (now («nitrogen_pascals» .entry))) (now (buffer .entry)) r (now (length .exit)) (now (buffer .exit)) ⌝ }
+{
+    let reply = writer::write(
+        hydrogen_millikelvin,
+        hydrogen_pascals,
+        oxygen_millikelvin,
+        oxygen_pascals,
+        nitrogen_millikelvin,
+        nitrogen_pascals,
+        buffer,
+    );
+    let told = reply.figures();
+    *length = told.length as u64;
     told.number
 }

@@ -30,6 +30,9 @@ impl Display for Report {
         writeln!(out, "\n## Claims\n")?;
         write_about_claims(out)?;
         self.write_claims(out)?;
+        writeln!(out, "\n## Writing a sheet\n")?;
+        self.write_about_writing(out)?;
+        self.write_writing(out)?;
         writeln!(out, "\n## Program `sheet`\n")?;
         self.write_programs(out)?;
         write_about_programs(out)?;
@@ -147,6 +150,21 @@ those of the {scanned} states that are scanned to be what the second implementat
         )
     }
 
+    fn write_about_writing(&self, out: &mut Formatter) -> Result {
+        let [state_lines, bytes] = [self.writing.state_lines, self.writing.bytes].map(grouped);
+        write!(
+            out,
+            "\
+Microseconds for a sheet of {state_lines} state lines, as many of each fluid, whose numbers all have ten digits: {bytes}
+bytes, nearly as many as a sheet may have. Writing it from lists is timed beside reading the very same bytes, in
+rounds of their own; the two are compared round by round, and the median of the ratios is judged. Before the clock
+runs, what is written is checked to be what the second implementation writes, and each of its lines to be read as
+the state that it was written from.
+
+"
+        )
+    }
+
     fn write_about_floors(&self, out: &mut Formatter) -> Result {
         let (counted, n) = (grouped(self.counted), grouped(N as usize));
         write!(
@@ -174,9 +192,9 @@ fn write_about_bars(out: &mut Formatter) -> Result {
         "
 A call for one side has less to work out than the whole call, by a density where there are two, so it may
 not take longer. As that is little, the two are compared round by round, and the median of the ratios is
-judged. The other ratios are of the median rounds, the last of user times. That last one says little: the
-second implementation scans the whole grid for each state, since it is to be plain and not quick, and
-almost any search beats that.
+judged; so are writing a sheet and reading it. The other ratios are of the median rounds, the last of user
+times. That last one says little: the second implementation scans the whole grid for each state, since it is
+to be plain and not quick, and almost any search beats that.
 "
     )
 }

@@ -17,6 +17,7 @@ mod report;
 mod rounds;
 mod states;
 mod walks;
+mod writing;
 
 use bands::Bands;
 use claims::Claims;
@@ -25,6 +26,7 @@ use report::Report;
 use second::random::Random;
 use std::process::ExitCode;
 use walks::Walks;
+use writing::Writing;
 
 /// How many states the calls are timed on, how many of these are scanned too, and over how many
 /// others the floors are counted.
@@ -55,6 +57,7 @@ fn main() -> ExitCode {
         walks: Walks::measure(&scanned),
         bands: Bands::measure(&timed, &scanned),
         claims: Claims::measure(&timed),
+        writing: Writing::measure(),
         scan: contenders::scan(&scanned),
         programs: programs::user_times(),
         solver: floors::of_solver(&counted),

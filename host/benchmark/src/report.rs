@@ -7,6 +7,7 @@ use crate::floors::{with_a_zero, Difference};
 use crate::programs::{UserTimes, PROVED_RUNS, SECOND_RUNS};
 use crate::rounds::Timing;
 use crate::walks::Walks;
+use crate::writing::Writing;
 use second::state::FLUIDS;
 use std::fmt::{Formatter, Result};
 
@@ -20,6 +21,7 @@ pub struct Report {
     pub walks: Walks,
     pub bands: Bands,
     pub claims: Claims,
+    pub writing: Writing,
     pub scan: f64,
     pub programs: UserTimes,
     pub solver: Vec<Difference>,
@@ -44,7 +46,7 @@ impl Report {
         self.bars().iter().all(Bar::met)
     }
 
-    pub fn bars(&self) -> [Bar; 8] {
+    pub fn bars(&self) -> [Bar; 9] {
         let bar = |of, above: f64, below: f64, most| Bar {
             of,
             ratio: above / below,
@@ -87,6 +89,12 @@ impl Report {
                 bands.widest.median,
                 without_densities,
                 2.0,
+            ),
+            bar(
+                "writing a sheet / reading it",
+                self.writing.write_beside_read,
+                1.0,
+                3.0,
             ),
             bar(
                 "program `sheet` / second implementation's",
@@ -204,6 +212,27 @@ impl Report {
                     "| {what} | {median:.1} | {quickest:.1} | {a_second} | {ratio:.3} |"
                 )?;
             }
+        }
+        Ok(())
+    }
+
+    pub fn write_writing(&self, out: &mut Formatter) -> Result {
+        let writing = &self.writing;
+        writeln!(
+            out,
+            "| what | median round | quickest round | beside reading it |"
+        )?;
+        writeln!(out, "|---|---:|---:|---:|")?;
+        for (what, timing, ratio) in [
+            (
+                "writing the sheet, `woolyard_write_sheet`",
+                writing.write,
+                writing.write_beside_read,
+            ),
+            ("reading it, `woolyard_sheet`", writing.read, 1.0),
+        ] {
+            let [median, quickest] = [timing.median, timing.quickest].map(|time| time / 1e3);
+            writeln!(out, "| {what} | {median:.1} | {quickest:.1} | {ratio:.3} |")?;
         }
         Ok(())
     }

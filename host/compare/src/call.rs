@@ -1,5 +1,6 @@
 //! A call of one of the header's functions: all that goes in, and all that the function may write.
 
+use second::writer::{OwnLists, LISTS};
 use std::fmt;
 
 /// The functions, by the numbers that a served process knows them by.
@@ -17,10 +18,11 @@ pub enum Function {
     Viscosity = 9,
     Sheet = 10,
     SheetLine = 11,
+    WriteSheet = 12,
 }
 
 /// The names in the header, in the order of the numbers.
-pub const NAMES: [&str; 12] = [
+pub const NAMES: [&str; 13] = [
     "woolyard_state",
     "woolyard_state_with_book",
     "woolyard_side",
@@ -33,10 +35,30 @@ pub const NAMES: [&str; 12] = [
     "woolyard_viscosity",
     "woolyard_sheet",
     "woolyard_sheet_line",
+    "woolyard_write_sheet",
 ];
 
+/// How many plain numbers or lists a function has at most.
+pub const ARGUMENTS: usize = 6;
+
 /// The lists of claims.
-const LISTS: [&str; 5] = ["fluids", "millikelvin", "pascals", "sides", "roots"];
+const CLAIMS: [&str; 5] = ["fluids", "millikelvin", "pascals", "sides", "roots"];
+
+/// The lists of a sheet that is to be written.
+const SHEET: [&str; LISTS] = [
+    "hydrogen millikelvin",
+    "hydrogen pascals",
+    "oxygen millikelvin",
+    "oxygen pascals",
+    "nitrogen millikelvin",
+    "nitrogen pascals",
+];
+
+/// Lies behind the last number of each of those lists, where the function is not to look: it would be refused.
+const BEHIND: u64 = u64::MAX;
+
+/// So many bytes lie behind the buffer, more than the widest line has.
+const BYTES_BEHIND: usize = 24;
 
 /// What no answered or refused call leaves as its number.
 const NOT_YET_MADE: u64 = u64::MAX;
@@ -48,14 +70,15 @@ pub struct Call {
     pub function: Function,
     /// The plain numbers in the order of the header, a double as its pattern, or the lengths of the lists; zeros
     /// for the rest.
-    pub arguments: [u64; 5],
+    pub arguments: [u64; ARGUMENTS],
     /// What the function fills in, as far as it has so many; the rest must stay as it was.
     pub places: [u64; 5],
     pub book: Vec<u8>,
+    /// The sheet, or the buffer that it is to be written into.
     pub sheet: Vec<u8>,
-    /// How many bytes of the book or the sheet the function is told of. More may lie behind.
+    /// How many bytes of the book, the sheet or the buffer the function is told of. More may lie behind.
     pub length: usize,
-    /// Five lists with room for as many numbers each, one behind the other. The function is told of so many of each
+    /// The lists with room for as many numbers each, one behind the other. The function is told of so many of each
     /// as the arguments say.
     pub lists: Vec<u64>,
     /// The reply's number.
@@ -65,11 +88,11 @@ pub struct Call {
 impl Call {
     /// The arguments that the function has, from the first on.
     fn new<const COUNT: usize>(function: Function, arguments: [u64; COUNT]) -> Call {
-        let mut five = [0; 5];
-        five[..COUNT].copy_from_slice(&arguments);
+        let mut all = [0; ARGUMENTS];
+        all[..COUNT].copy_from_slice(&arguments);
         Call {
             function,
-            arguments: five,
+            arguments: all,
             places: [0; 5],
             book: Vec::new(),
             sheet: Vec::new(),
@@ -165,11 +188,28 @@ impl Call {
             ..Call::new(Function::SheetLine, [k])
         }
     }
+
+    /// The function is told of so many bytes of the buffer. What they hold is the comparison's to say.
+    pub fn write_sheet(lists: &OwnLists, length: usize) -> Call {
+        let lengths = lists.each_ref().map(Vec::len);
+        let room = 1 + lengths.into_iter().max().unwrap_or(0);
+        let filled_up = |list: &Vec<u64>| {
+            let mut list = list.clone();
+            list.resize(room, BEHIND);
+            list
+        };
+        Call {
+            sheet: vec![0; length + BYTES_BEHIND],
+            length,
+            lists: lists.each_ref().map(filled_up).concat(),
+            ..Call::new(Function::WriteSheet, lengths.map(|length| length as u64))
+        }
+    }
 }
 
-/// What the function is told of its lists, which are of these lengths.
-pub fn told_lists(lists: &[u64], lengths: [u64; 5]) -> [&[u64]; 5] {
-    let room = lists.len() / lengths.len();
+/// What the function is told of its lists, of which it has so many. The first of its arguments are their lengths.
+pub fn told_lists<const COUNT: usize>(lists: &[u64], lengths: [u64; ARGUMENTS]) -> [&[u64]; COUNT] {
+    let room = lists.len() / COUNT;
     std::array::from_fn(|which| &lists[which * room..][..room][..lengths[which] as usize])
 }
 
@@ -197,32 +237,36 @@ impl fmt::Display for Call {
             Function::StateWithBook | Function::SideWithBook => {
                 write!(text, ", book {:?}", self.book)
             }
-            Function::Claims => self.write_lists(text),
+            Function::Claims => self.write_lists(text, &CLAIMS),
             Function::Sheet | Function::SheetLine => {
                 write!(text, ", sheet \"{}\"", self.sheet.escape_ascii())
+            }
+            Function::WriteSheet => {
+                self.write_lists(text, &SHEET)?;
+                write!(text, ", buffer \"{}\"", self.sheet.escape_ascii())
             }
         }
     }
 }
 
 impl Call {
-    /// How many bytes the book, the sheet or the lists take, of which only one is not empty.
+    /// How many bytes the book, the sheet and the lists take.
     pub fn lent_bytes(&self) -> usize {
         self.book.len() + self.sheet.len() + size_of_val(&self.lists[..])
     }
 
     /// With all that lies past their lengths.
-    fn write_lists(&self, text: &mut fmt::Formatter<'_>) -> fmt::Result {
-        let room = (self.lists.len() / LISTS.len()) as u64;
-        for (name, list) in LISTS.iter().zip(told_lists(&self.lists, [room; 5])) {
-            write!(text, ", {name} {list:?}")?;
+    fn write_lists(&self, text: &mut fmt::Formatter<'_>, names: &[&str]) -> fmt::Result {
+        let room = self.lists.len() / names.len();
+        for (which, name) in names.iter().enumerate() {
+            write!(text, ", {name} {:?}", &self.lists[which * room..][..room])?;
         }
         Ok(())
     }
 
     /// The arguments with their names.
     fn asked(&self) -> String {
-        let [first, second, third, fourth, fifth] = self.arguments;
+        let [first, second, third, fourth, fifth, _] = self.arguments;
         let state = format!("fluid {first}, millikelvin {second}, pascals {third}");
         let length = self.length;
         match self.function {
@@ -234,12 +278,15 @@ impl Call {
             }
             Function::Walk => format!("{state}, limit {fourth}"),
             Function::Band => format!("{state}, lower {fourth}, upper {fifth}"),
-            Function::Claims => format!("lengths {:?}", self.arguments),
+            Function::Claims => format!("lengths {:?}", &self.arguments[..CLAIMS.len()]),
             Function::Heat => format!("kelvin {first:#018x} or {}", f64::from_bits(first)),
             Function::HeatTable => format!("millikelvin {first}"),
             Function::Viscosity => format!("thousandths {first}"),
             Function::Sheet => format!("length {length}"),
             Function::SheetLine => format!("length {length}, k {first}"),
+            Function::WriteSheet => {
+                format!("lengths {:?}, buffer length {length}", self.arguments)
+            }
         }
     }
 }

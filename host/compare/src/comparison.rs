@@ -1,7 +1,7 @@
 //! Asks the archive and the second implementation the same, and stops at the first difference.
 
 use crate::boundary::Boundary;
-use crate::call::Call;
+use crate::call::{Call, Function};
 use crate::second_side::Second;
 use crate::tally::Tally;
 use second::heat::NOT_NUMBERS;
@@ -12,7 +12,7 @@ use std::io;
 pub type Outcome = Result<(), String>;
 
 /// How much waits before it is asked at once. A served process reads a batch into 4 MiB; each call adds
-/// less than 120 bytes to what it lends, and the last one lends less than three quarters of that.
+/// less than 130 bytes to what it lends, and the last one lends less than four fifths of that.
 const MOST_CALLS: usize = 2000;
 const MOST_LENT_BYTES: usize = 300_000;
 
@@ -64,10 +64,13 @@ impl Comparison {
         Ok(answers.try_into().expect("an answer to each"))
     }
 
-    /// The places are filled with junk, so that one which should be written and is not shows, and one that
-    /// should not be and is.
+    /// The places are filled with junk, and so is a buffer, so that one which should be written and is not shows, and
+    /// one that should not be and is.
     fn question(&mut self, mut call: Call) -> Call {
         call.places = [(); 5].map(|()| self.junk());
+        if call.function == Function::WriteSheet {
+            call.sheet.fill_with(|| self.junk.number() as u8);
+        }
         self.tally.count(call.function);
         call
     }
@@ -120,7 +123,9 @@ fn made(boundary: &mut dyn Boundary, questions: &[Call]) -> io::Result<Vec<Call>
 #[cfg(test)]
 mod tests {
     use super::*;
+    use second::sheet::TEN_NINES;
     use second::state::bytes_of_slot;
+    use second::writer::OwnLists;
 
     /// The second implementation in the archive's stead, with one answer changed.
     struct Changed(fn(&mut Call));
@@ -152,6 +157,7 @@ mod tests {
             Call::heat_table(41_500),
             Call::viscosity(1000),
             Call::sheet(b"0\n0\n0\n0", 6),
+            Call::write_sheet(&OwnLists::default(), 6),
             Call::side_with_book(state, 1, 63, &[7; 195], 192),
             Call::state_with_book(state, 63, &[7; 195], 192),
         ]
@@ -283,6 +289,53 @@ mod tests {
                 assert!(difference.contains(&format!("(lengths {lengths:?}) over")));
                 assert!(difference.contains(&format!("; the second implementation {told}")));
                 assert!(difference.contains(", fluids [1, 1, 1], millikelvin [120000, "));
+            }
+        }
+    }
+
+    /// Of a sheet that is written, and of lists that each refusal is for: in the number, in the length, in a place that
+    /// the call does not have, in the first byte of the buffer, behind the sheet that it is to hold, past the buffer's
+    /// end, in a number of the first list and of the last, and past their ends.
+    #[test]
+    fn differences_of_a_written_sheet() {
+        let lists = |hydrogen: &[u64], nitrogen: &[u64]| {
+            let [hydrogen, nitrogen] = [hydrogen, nitrogen].map(<[u64]>::to_vec);
+            let empty = Vec::new;
+            [
+                hydrogen.clone(),
+                hydrogen,
+                empty(),
+                empty(),
+                vec![7],
+                nitrogen,
+            ]
+        };
+        for (lists, length, told) in [
+            (lists(&[1], &[2]), 20, "0 and [14, "),
+            (lists(&[1], &[2]), 14, "0 and [14, "),
+            (lists(&[1, 2], &[]), 20, "8 and [0, "),
+            (lists(&[1], &[TEN_NINES + 1]), 20, "9 and [0, "),
+            (lists(&[1], &[2]), 13, "10 and [0, "),
+        ] {
+            let write = || vec![Call::write_sheet(&lists, length)];
+            assert_eq!(outcome(write(), |_| ()), Ok(()));
+            let changes: [fn(&mut Call); 10] = [
+                |call| call.number ^= 10,
+                |call| call.places[0] += 1,
+                |call| call.places[1] ^= 1,
+                |call| call.sheet[0] ^= 1,
+                |call| call.sheet[14] ^= 1,
+                |call| call.sheet[call.length - 1] ^= 1,
+                |call| call.sheet[call.length] ^= 1,
+                |call| call.lists[0] = 0,
+                |call| *call.lists.last_mut().expect("six lists") = 0,
+                |call| call.lists[1] ^= 1,
+            ];
+            for change in changes {
+                let difference = outcome(write(), change).expect_err("a difference");
+                assert!(difference.contains(&format!("buffer length {length}) over")));
+                assert!(difference.contains(&format!("; the second implementation {told}")));
+                assert!(difference.contains(", hydrogen millikelvin [1, "));
             }
         }
     }

@@ -15,7 +15,7 @@ impl Boundary for Linked {
 }
 
 fn make(call: &mut Call) {
-    let [first, second, third, fourth, fifth] = call.arguments;
+    let [first, second, third, fourth, fifth, _] = call.arguments;
     call.number = match call.function {
         Function::State => boundary::state(first, second, third, &mut call.places),
         Function::StateWithBook => {
@@ -46,6 +46,11 @@ fn make(call: &mut Call) {
         Function::SheetLine => {
             let sheet = &call.sheet[..call.length];
             boundary::sheet_line(sheet, first, first_of(&mut call.places))
+        }
+        Function::WriteSheet => {
+            let lists = told_lists(&call.lists, call.arguments);
+            let buffer = &mut call.sheet[..call.length];
+            boundary::write_sheet(lists, buffer, &mut call.places[0])
         }
     };
 }

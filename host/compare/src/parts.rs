@@ -12,6 +12,8 @@ mod split;
 mod states;
 mod viscosities;
 mod walks;
+mod writes;
+mod written_again;
 
 use crate::comparison::{Comparison, Outcome};
 use crate::workers::Unit;
@@ -56,6 +58,8 @@ pub fn units() -> Vec<Unit> {
     units.extend(heat_table::units());
     units.extend(viscosities::units());
     units.extend(sheets::units());
+    units.extend(writes::units());
+    units.extend(written_again::units());
     units.extend(sides::units());
     units.extend(books::units());
     units.extend(walks::units());
@@ -100,6 +104,14 @@ fn beside(places: impl Iterator<Item = u64>, near: &'static [u64]) -> impl Itera
     places.flat_map(move |place| {
         near.iter()
             .flat_map(move |&near| [place.wrapping_add(near), place.wrapping_sub(near)])
+    })
+}
+
+/// All combinations of these, the first place changing quickest.
+fn combinations<const COUNT: usize>(of: &[usize]) -> impl Iterator<Item = [usize; COUNT]> + '_ {
+    let each = of.len();
+    (0..each.pow(COUNT as u32)).map(move |combination| {
+        std::array::from_fn(|place| of[combination / each.pow(place as u32) % each])
     })
 }
 

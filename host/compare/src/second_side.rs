@@ -10,6 +10,7 @@ use second::sheet::{self, Refusal};
 use second::state::{put_into_book, put_side_into_book, reply, side_of, Reply, SideReply};
 use second::viscosity::excess_factor;
 use second::walk::{limited, walk_reply, WalkReply};
+use second::writer;
 use std::collections::HashMap;
 use std::io;
 
@@ -41,6 +42,7 @@ impl Boundary for Second {
                 Function::Viscosity => write_figure(call, excess_factor(call.arguments[0])),
                 Function::Sheet => whole_sheet(call),
                 Function::SheetLine => sheet_line(call),
+                Function::WriteSheet => write_sheet(call),
             }
         }
         Ok(())
@@ -101,20 +103,20 @@ impl Second {
 
     fn side_with_book(&mut self, call: &mut Call) {
         let whole = self.reply_to(call);
-        let [.., side, slot] = call.arguments;
+        let [_, _, _, side, slot, _] = call.arguments;
         let reply = put_side_into_book(whole, side, slot, &mut call.book[..call.length]);
         write_side(call, reply);
     }
 
     fn walk(&mut self, call: &mut Call) {
-        let [fluid, millikelvin, pascals, limit, _] = call.arguments;
+        let [fluid, millikelvin, pascals, limit, ..] = call.arguments;
         let reply = limited(self.whole_walk([fluid, millikelvin, pascals]), limit);
         call.number = reply.number;
         call.places[..2].copy_from_slice(&reply.figures());
     }
 
     fn band(&mut self, call: &mut Call) {
-        let [fluid, millikelvin, pascals, lower, upper] = call.arguments;
+        let [fluid, millikelvin, pascals, lower, upper, _] = call.arguments;
         let reply = self.band_reply([fluid, millikelvin, pascals], [lower, upper]);
         call.number = reply.number;
         call.places[..2].copy_from_slice(&reply.figures());
@@ -183,4 +185,10 @@ fn sheet_line(call: &mut Call) {
     };
     call.number = number;
     call.places[..3].copy_from_slice(&state);
+}
+
+fn write_sheet(call: &mut Call) {
+    let lists = told_lists(&call.lists, call.arguments);
+    let reply = writer::write(lists, &mut call.sheet[..call.length]);
+    write_figure(call, reply.map(|length| length as u64));
 }

@@ -1,10 +1,10 @@
 //! The archive in another process, which answers over its standard input and output: the program
 //! boundary/served.c, or an emulator that runs it.
 //!
-//! A batch is the number of its bytes, a word, and the calls one after the other. A call is thirteen
-//! words: the function; five arguments; the length; how many bytes are lent; five places. What is lent
-//! follows, filled up to whole words. Each answer takes the place of its call, with the reply's number
-//! where the function was. A word has eight bytes, the lowest first.
+//! A batch is the number of its bytes, a word, and the calls one after the other. A call is fifteen
+//! words: the function; six arguments; the length; how many numbers are lent, and how many bytes; five places.
+//! What is lent follows, the numbers first, filled up to whole words. Each answer takes the place of its call,
+//! with the reply's number where the function was. A word has eight bytes, the lowest first.
 
 use crate::boundary::Boundary;
 use crate::call::Call;
@@ -15,10 +15,10 @@ use std::thread;
 use std::time::Duration;
 
 /// The words of a call before what is lent.
-const WORDS: usize = 13;
+const WORDS: usize = 15;
 
 /// Where the places begin among them.
-const PLACES: usize = 8;
+const PLACES: usize = 10;
 
 const WORD_BYTES: usize = 8;
 
@@ -133,7 +133,8 @@ fn put(call: &Call, bytes: &mut Vec<u8>) {
     put_word(call.function as u64);
     call.arguments.into_iter().for_each(&mut put_word);
     put_word(call.length as u64);
-    put_word(call.lent_bytes() as u64);
+    put_word(call.lists.len() as u64);
+    put_word((call.book.len() + call.sheet.len()) as u64);
     call.places.into_iter().for_each(&mut put_word);
     call.lists.iter().copied().for_each(&mut put_word);
     bytes.extend_from_slice(&call.book);
@@ -179,11 +180,13 @@ mod tests {
     #[test]
     fn answers() {
         let claims = Call::claims(&[[1, 2, 3, 4, 5], [6, 7, 8, 9, 10]], [2; 5]);
-        for mut taken in [call(), claims] {
+        let write = Call::write_sheet(&[1, 2, 3, 4, 5, 6].map(|number| vec![number]), 3);
+        for mut taken in [call(), claims, write] {
             let mut made = taken.clone();
             made.number = 0;
             made.places = [1, 2, 3, 4, 5];
-            made.book.iter_mut().skip(2).for_each(|byte| *byte = 8);
+            let bytes = made.book.iter_mut().chain(&mut made.sheet);
+            bytes.skip(2).for_each(|byte| *byte = 8);
             made.lists.iter_mut().skip(2).for_each(|number| *number = 8);
             let mut answer = bytes_of(&made);
             answer[..WORD_BYTES].copy_from_slice(&word(0));
@@ -204,10 +207,10 @@ mod tests {
         }
     }
 
-    /// The first argument and the last, the length, and what fills the last word up.
+    /// The first argument and the last, the length, how much is lent, and what fills the last word up.
     #[test]
     fn written_beside_the_places() {
-        for word in [1, 5, 6, WORDS] {
+        for word in [1, 6, 7, 8, 9, WORDS] {
             let mut answer = bytes_of(&call());
             answer[word * WORD_BYTES + 7] ^= 1;
             assert!(answered(&mut call(), &answer).is_err());

@@ -17,3 +17,4 @@ pub mod sheet_list;
 pub mod state;
 pub mod viscosity;
 pub mod walk;
+pub mod writer;

@@ -190,6 +190,7 @@ mod tests {
     use crate::random::Random;
     use crate::sheet_list::{full_sheet, WIDEST};
     use crate::state::{side_reply, SideReply, DENSE, GAS, HYDROGEN, NITROGEN, OXYGEN};
+    use crate::writer::section;
 
     /// The last is 2 to the 64th, which is 0 to whoever does not look at the carry.
     const NO_NUMBERS: [&[u8]; 22] = [
@@ -569,15 +570,14 @@ NO 21
 
     /// The sections of these fluids, each with its own states.
     fn written_sections(states: &[State], fluids: &[Fluid]) -> Vec<u8> {
-        let mut text = String::new();
-        for fluid in fluids {
-            let section = states.iter().filter(|state| state.fluid == fluid.number);
-            text += &format!("{}\n", section.clone().count());
-            for state in section {
-                text += &format!("{} {}\n", state.millikelvin, state.pascals);
-            }
-        }
-        text.into_bytes()
+        let sections = fluids.iter().map(|fluid| {
+            let own = states.iter().filter(|state| state.fluid == fluid.number);
+            let own: Vec<[u64; 2]> = own
+                .map(|state| [state.millikelvin, state.pascals])
+                .collect();
+            section(&own)
+        });
+        sections.collect::<String>().into_bytes()
     }
 
     /// The good sheet with the numbers that are found in these bytes, whatever stands between them,

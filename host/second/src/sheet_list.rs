@@ -3,6 +3,7 @@
 use crate::random::Random;
 use crate::sheet::{EXAMPLE, LARGEST_COUNT, SECTIONS, TEN_NINES};
 use crate::state::{Fluid, FLUIDS, HIGHEST_PRESSURE, HOTTEST, LOWEST_PRESSURE};
+use crate::writer::{lent, section, text, OwnLists};
 use std::collections::HashSet;
 
 /// How many bytes the list of the program `sheet_points` has at most, a byte after each sheet counted.
@@ -279,28 +280,33 @@ fn combinations(most: u64) -> impl Iterator<Item = [u64; SECTIONS]> {
 
 /// The sheet of these counts. A state is chosen by the fluid of its section.
 pub fn written(counts: [u64; SECTIONS], mut state: impl FnMut(Fluid) -> [u64; 2]) -> Vec<u8> {
-    let mut text = String::new();
-    for (fluid, count) in FLUIDS.into_iter().zip(counts) {
-        text += &format!("{count}\n");
-        for _ in 0..count {
-            let [millikelvin, pascals] = state(fluid);
-            text += &format!("{millikelvin} {pascals}\n");
-        }
-    }
-    text.into()
+    let sections = FLUIDS.into_iter().zip(counts).map(|(fluid, count)| {
+        let states: Vec<[u64; 2]> = (0..count).map(|_| state(fluid)).collect();
+        section(&states)
+    });
+    sections.collect::<String>().into()
 }
 
-/// A sheet of full sections in so many bytes, which is good unless they are too many: all its lines are the
-/// widest but for the first few, whose numbers have fewer digits.
+/// A sheet of full sections in so many bytes, which is good unless they are too many.
 pub fn full_sheet(bytes: usize) -> Vec<u8> {
+    text(lent(&full_lists(bytes))).into()
+}
+
+/// The lists of that sheet: all its numbers are the widest but for the first few, which have fewer digits.
+pub fn full_lists(bytes: usize) -> OwnLists {
     let mut too_many = (WIDEST - bytes) as u32;
-    written([LARGEST_COUNT; SECTIONS], |_| {
-        [TEN_NINES; 2].map(|number| {
-            let taken = too_many.min(9);
-            too_many -= taken;
-            number / 10_u64.pow(taken)
-        })
-    })
+    let mut number = || {
+        let taken = too_many.min(9);
+        too_many -= taken;
+        TEN_NINES / 10_u64.pow(taken)
+    };
+    let mut lists = OwnLists::default();
+    for of_fluid in lists.chunks_mut(2) {
+        for _ in 0..LARGEST_COUNT {
+            of_fluid.iter_mut().for_each(|list| list.push(number()));
+        }
+    }
+    lists
 }
 
 /// Numbers at every place of a state, the least and the greatest of each length among them.

@@ -1,6 +1,6 @@
 //! The wrappers in use: what host/examples/woolyard_example.c does, in Rust.
 
-use woolyard::{Claim, FaultySheet, Fluid, Kind, Refusal, Side};
+use woolyard::{Answer, Claim, FaultySheet, Fluid, Kind, Refusal, Side, State};
 
 fn print_sheet(sheet: &[u8]) {
     match woolyard::sheet(sheet) {
@@ -11,10 +11,34 @@ fn print_sheet(sheet: &[u8]) {
         }
         Err(FaultySheet::TooLong) => println!("sheet: too long"),
     }
-    let lines = (0..).map_while(|k| woolyard::sheet_line(sheet, k).ok());
-    for line in lines {
+    for line in states_of(sheet) {
         let [fluid, millikelvin, pascals] = [line.fluid.number(), line.millikelvin, line.pascals];
         println!("  fluid {fluid}, {millikelvin} mK, {pascals} Pa");
+    }
+}
+
+fn states_of(sheet: &[u8]) -> impl Iterator<Item = State> + '_ {
+    (0..).map_while(|k| woolyard::sheet_line(sheet, k).ok())
+}
+
+/// As the program `sheet` prints them.
+fn print_answers(sheet: &[u8]) {
+    for line in states_of(sheet) {
+        match woolyard::state(line.fluid, line.millikelvin, line.pascals) {
+            Err(refusal) => println!("  NO {}", refusal.number()),
+            Ok(Answer {
+                kind,
+                gas_root,
+                dense_root,
+                gas_density,
+                dense_density,
+            }) => match kind {
+                Kind::One => println!("  ONE {gas_root} {gas_density}"),
+                Kind::Split => {
+                    println!("  SPLIT {gas_root} {gas_density} {dense_root} {dense_density}")
+                }
+            },
+        }
     }
 }
 
@@ -110,5 +134,27 @@ fn main() -> Result<(), Refusal> {
 
     print_sheet(b"1\n300000 1000000\n2\n120000 500000\n55999 500000\n1\n90000 300000\n");
     print_sheet(b"0\n1\n120000\n0\n");
+
+    let row = |fluid, millikelvin, pascals| State {
+        fluid,
+        millikelvin,
+        pascals,
+    };
+    let rows = [
+        row(Fluid::Oxygen, 300_000, 1_000_000),
+        row(Fluid::Parahydrogen, 300_000, 1_000_000),
+        row(Fluid::Oxygen, 120_000, 500_000),
+        row(Fluid::Oxygen, 55_999, 500_000),
+    ];
+    let mut sheet = woolyard::write_sheet(&rows)?;
+    println!(
+        "sheet written from four rows: reply 0, {} bytes",
+        sheet.len()
+    );
+    print_answers(&sheet);
+    let room = sheet.len() - 1;
+    if let Err(refusal) = woolyard::write_sheet_into(&rows, &mut sheet[..room]) {
+        println!("with room for one byte less: reply {}", refusal.number());
+    }
     Ok(())
 }

@@ -1,4 +1,4 @@
-//! The twelve functions of include/woolyard.h, as they are: numbers in, the reply's number out, and the
+//! The thirteen functions of include/woolyard.h, as they are: numbers in, the reply's number out, and the
 //! figures in the places that the caller lends. All that is unsafe stands here.
 //!
 //! The header asks that a pointer points to as many elements as its array or its length says, that it
@@ -19,6 +19,9 @@ pub const WALK_FIGURES: usize = 2;
 
 /// How many roots a band has.
 pub const BAND_ROOTS: usize = 2;
+
+/// How many lists a sheet is written from, two for each fluid.
+pub const SHEET_LISTS: usize = 6;
 
 mod foreign {
     extern "C" {
@@ -91,6 +94,23 @@ mod foreign {
             length: usize,
             k: u64,
             state: *mut [u64; 3],
+        ) -> u64;
+        pub fn woolyard_write_sheet(
+            hydrogen_millikelvin: *const u64,
+            hydrogen_millikelvin_length: usize,
+            hydrogen_pascals: *const u64,
+            hydrogen_pascals_length: usize,
+            oxygen_millikelvin: *const u64,
+            oxygen_millikelvin_length: usize,
+            oxygen_pascals: *const u64,
+            oxygen_pascals_length: usize,
+            nitrogen_millikelvin: *const u64,
+            nitrogen_millikelvin_length: usize,
+            nitrogen_pascals: *const u64,
+            nitrogen_pascals_length: usize,
+            buffer: *mut u8,
+            buffer_length: usize,
+            length: *mut u64,
         ) -> u64;
     }
 }
@@ -251,4 +271,35 @@ pub fn sheet(sheet: &[u8], reading: &mut [u64; 3]) -> u64 {
 pub fn sheet_line(sheet: &[u8], k: u64, state: &mut [u64; 3]) -> u64 {
     // SAFETY: as for `sheet`, with `state` for `reading`.
     unsafe { foreign::woolyard_sheet_line(sheet.as_ptr(), sheet.len(), k, state) }
+}
+
+/// `woolyard_write_sheet`: for hydrogen, oxygen and nitrogen in turn a list of temperatures in millikelvin and one of
+/// pressures in pascals, of any lengths and of any numbers; `length` is that of the sheet which the buffer then begins
+/// with, or 0.
+#[inline]
+pub fn write_sheet(lists: [&[u64]; SHEET_LISTS], buffer: &mut [u8], length: &mut u64) -> u64 {
+    let [hydrogen_millikelvin, hydrogen_pascals, lists @ ..] = lists;
+    let [oxygen_millikelvin, oxygen_pascals, lists @ ..] = lists;
+    let [nitrogen_millikelvin, nitrogen_pascals] = lists;
+    // SAFETY: each list has as many numbers as its length says and none is written; `buffer` has the bytes that its
+    // length says, `length` is one place, and both are `&mut`, so they lie apart from each other and from the lists.
+    unsafe {
+        foreign::woolyard_write_sheet(
+            hydrogen_millikelvin.as_ptr(),
+            hydrogen_millikelvin.len(),
+            hydrogen_pascals.as_ptr(),
+            hydrogen_pascals.len(),
+            oxygen_millikelvin.as_ptr(),
+            oxygen_millikelvin.len(),
+            oxygen_pascals.as_ptr(),
+            oxygen_pascals.len(),
+            nitrogen_millikelvin.as_ptr(),
+            nitrogen_millikelvin.len(),
+            nitrogen_pascals.as_ptr(),
+            nitrogen_pascals.len(),
+            buffer.as_mut_ptr(),
+            buffer.len(),
+            length,
+        )
+    }
 }

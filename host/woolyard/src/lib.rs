@@ -4,7 +4,8 @@
 //! Safe Rust over `libwoolyard.a`, whose functions are proved to answer what document 01 (rules and
 //! scope of the build) defines, as later requests amend it. Every function answers every input, and
 //! the caller checks nothing first. None keeps a reference or has state of its own, so calls may run at
-//! the same time; and none allocates but [`claims`], which makes lists of its rows.
+//! the same time; and none allocates but [`claims`], [`write_sheet`] and [`write_sheet_into`], which make
+//! lists of their rows.
 //!
 //! ```
 //! use woolyard::{Fluid, Kind, Refusal, Side};
@@ -27,7 +28,7 @@ mod reply;
 #[cfg(test)]
 mod tests;
 
-use boundary::{BAND_ROOTS, FIGURES, SIDE_FIGURES, WALK_FIGURES};
+use boundary::{BAND_ROOTS, FIGURES, SHEET_LISTS, SIDE_FIGURES, WALK_FIGURES};
 pub use reply::{
     Answer, Band, Claim, FaultySheet, Fluid, Kind, Refusal, RefusedClaim, Side, SideAnswer, State,
     Walk,
@@ -38,6 +39,9 @@ pub const BOOK_BYTES: usize = 192;
 
 /// How many bytes a sheet may have.
 pub const SHEET_MOST_BYTES: usize = 65_536;
+
+/// How many states of one fluid a sheet may have.
+pub const SECTION_MOST_STATES: usize = 1000;
 
 /// A limit with which no walk is cut short.
 pub const WALK_ENOUGH: u64 = 100_001;
@@ -290,6 +294,48 @@ pub fn sheet_line(sheet: &[u8], k: u64) -> Result<State, Refusal> {
         millikelvin,
         pascals,
     })
+}
+
+/// The sheet of these rows, as a spreadsheet has them, in any order of the fluids: a section for each fluid with its
+/// count, in which its rows keep their order. States out of range are written too. [`sheet_line`] reads the same
+/// states back; and the states of a good sheet are written as the very bytes of that one. The first of refusals 8, 9
+/// and 10 that applies is given: 8 for more than [`SECTION_MOST_STATES`] rows of one fluid, 9 for a number of more
+/// than ten digits, and 10 for a sheet of more than [`SHEET_MOST_BYTES`].
+///
+/// ```
+/// use woolyard::{Fluid, Refusal, State};
+///
+/// let row = |fluid, millikelvin, pascals| State { fluid, millikelvin, pascals };
+/// let rows = [row(Fluid::Oxygen, 120_000, 500_000), row(Fluid::Parahydrogen, 300_000, 1_000_000)];
+/// let sheet = woolyard::write_sheet(&rows)?;
+/// assert_eq!(sheet, b"1\n300000 1000000\n1\n120000 500000\n0\n");
+/// let eleven_digits = woolyard::write_sheet(&[row(Fluid::Oxygen, 10_000_000_000, 0)]);
+/// assert_eq!(eleven_digits, Err(Refusal::TooManyDigits));
+/// # Ok::<(), Refusal>(())
+/// ```
+pub fn write_sheet(rows: &[State]) -> Result<Vec<u8>, Refusal> {
+    let mut sheet = vec![0; SHEET_MOST_BYTES];
+    let length = write_sheet_into(rows, &mut sheet)?;
+    sheet.truncate(length);
+    sheet.shrink_to_fit();
+    Ok(sheet)
+}
+
+/// The same into a buffer, which then begins with the sheet, and its length. The bytes behind the sheet stay as they
+/// were, and where it is refused all of them. A buffer of just the sheet's length is enough, and one of
+/// [`SHEET_MOST_BYTES`] has room for every sheet that can be written; where there is no room, it is refusal 10.
+pub fn write_sheet_into(rows: &[State], buffer: &mut [u8]) -> Result<usize, Refusal> {
+    let lists: [Vec<u64>; SHEET_LISTS] = std::array::from_fn(|which| {
+        let fluid = Fluid::ALL[which / 2];
+        let own = rows.iter().filter(|row| row.fluid == fluid);
+        own.map(|row| [row.millikelvin, row.pascals][which % 2])
+            .collect()
+    });
+    let mut length = 0;
+    let lists = lists.each_ref().map(Vec::as_slice);
+    Refusal::check(boundary::write_sheet(lists, buffer, &mut length))?;
+    // no more than the buffer has, so it is not cut off
+    Ok(length as usize)
 }
 
 /// An answer of these figures, unless the number is a refusal's.

@@ -12,7 +12,7 @@ pub enum Fluid {
 }
 
 impl Fluid {
-    const ALL: [Fluid; 3] = [Fluid::Parahydrogen, Fluid::Oxygen, Fluid::Nitrogen];
+    pub(crate) const ALL: [Fluid; 3] = [Fluid::Parahydrogen, Fluid::Oxygen, Fluid::Nitrogen];
 
     /// The number that stands for the fluid.
     pub fn number(self) -> u64 {
@@ -132,7 +132,7 @@ impl fmt::Display for RefusedClaim {
 
 impl Error for RefusedClaim {}
 
-/// A state line as written, in range or not.
+/// A state line as written or as it is to be written, in range or not.
 #[derive(Clone, Copy, Debug, PartialEq, Eq, Hash)]
 pub struct State {
     pub fluid: Fluid,
@@ -152,17 +152,21 @@ pub enum Refusal {
     NoSuchSlot = 4,
     WalkCutShort = 11,
     ScalingOutOfRange = 13,
-    LengthsDiffer = 8,
+    /// The header has two names for 8. Lists of claims are unfit where they are of unequal lengths; those of a sheet
+    /// that is to be written also where one is too long.
+    ListsUnfit = 8,
     RootDiffers = 14,
     HeatOutOfRange = 5,
     DensityOutOfRange = 15,
     SheetMalformed = 6,
     SheetTooLong = 7,
     NoSuchLine = 16,
+    TooManyDigits = 9,
+    NoRoom = 10,
 }
 
 impl Refusal {
-    const ALL: [Refusal; 16] = [
+    const ALL: [Refusal; 18] = [
         Refusal::NoSuchFluid,
         Refusal::TemperatureTooLow,
         Refusal::TemperatureTooHigh,
@@ -172,13 +176,15 @@ impl Refusal {
         Refusal::NoSuchSlot,
         Refusal::WalkCutShort,
         Refusal::ScalingOutOfRange,
-        Refusal::LengthsDiffer,
+        Refusal::ListsUnfit,
         Refusal::RootDiffers,
         Refusal::HeatOutOfRange,
         Refusal::DensityOutOfRange,
         Refusal::SheetMalformed,
         Refusal::SheetTooLong,
         Refusal::NoSuchLine,
+        Refusal::TooManyDigits,
+        Refusal::NoRoom,
     ];
 
     /// The number of the reply.
@@ -210,13 +216,17 @@ impl fmt::Display for Refusal {
             Refusal::ScalingOutOfRange => {
                 "a scaling below 500 or above 1500 thousandths, or the lower one not first"
             }
-            Refusal::LengthsDiffer => "lists of claims of unequal lengths",
+            Refusal::ListsUnfit => {
+                "lists of unequal lengths, or one of more than 1000 numbers for a sheet"
+            }
             Refusal::RootDiffers => "the root that is claimed is not the side's",
             Refusal::HeatOutOfRange => "heat-capacity temperature not a number in 14 to 1000 K",
             Refusal::DensityOutOfRange => "reduced density below 100 or above 3000 thousandths",
             Refusal::SheetMalformed => "sheet badly formed",
             Refusal::SheetTooLong => "sheet longer than 65,536 bytes",
             Refusal::NoSuchLine => "no state line of the number asked for",
+            Refusal::TooManyDigits => "a number of more than ten digits for a sheet",
+            Refusal::NoRoom => "the sheet is longer than the buffer or than 65,536 bytes",
         })
     }
 }

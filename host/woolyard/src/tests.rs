@@ -1,4 +1,4 @@
-//! Document 01, "Points worked through" and "State sheets", and document 02, C-14, C-17 to C-20 and C-22 to C-24.
+//! Document 01, "Points worked through" and "State sheets", and document 02, C-11, C-14, C-17 to C-20 and C-22 to C-24.
 
 use super::*;
 
@@ -436,7 +436,7 @@ fn lists_of_unequal_lengths() {
             assert_eq!(call(lengths), (number, 0), "{lengths:?}");
         }
     }
-    assert_eq!(Refusal::check(8), Err(Refusal::LengthsDiffer));
+    assert_eq!(Refusal::check(8), Err(Refusal::ListsUnfit));
 }
 
 #[test]
@@ -508,21 +508,25 @@ fn excess_viscosity_factors() {
     }
 }
 
+const fn state_of(fluid: Fluid, millikelvin: u64, pascals: u64) -> State {
+    State {
+        fluid,
+        millikelvin,
+        pascals,
+    }
+}
+
+const EXAMPLE_STATES: [State; 4] = [
+    state_of(Fluid::Parahydrogen, 300_000, 1_000_000),
+    state_of(Fluid::Oxygen, 300_000, 1_000_000),
+    state_of(Fluid::Oxygen, 120_000, 500_000),
+    state_of(Fluid::Oxygen, 55_999, 500_000),
+];
+
 #[test]
 fn lines_of_the_example() {
     assert_eq!(sheet(EXAMPLE), Ok(4));
-    let expected = [
-        (Fluid::Parahydrogen, 300_000, 1_000_000),
-        (Fluid::Oxygen, 300_000, 1_000_000),
-        (Fluid::Oxygen, 120_000, 500_000),
-        (Fluid::Oxygen, 55_999, 500_000),
-    ];
-    for (k, (fluid, millikelvin, pascals)) in (0..).zip(expected) {
-        let state = State {
-            fluid,
-            millikelvin,
-            pascals,
-        };
+    for (k, state) in (0..).zip(EXAMPLE_STATES) {
         assert_eq!(sheet_line(EXAMPLE, k), Ok(state));
     }
     assert_eq!(sheet_line(EXAMPLE, 4), Err(Refusal::NoSuchLine));
@@ -545,11 +549,7 @@ fn small_sheets() {
 #[test]
 fn sections_of_a_sheet() {
     let text = b"1\n300000 1000000\n0\n1\n90000 300000\n";
-    let state = State {
-        fluid: Fluid::Nitrogen,
-        millikelvin: 90_000,
-        pascals: 300_000,
-    };
+    let state = state_of(Fluid::Nitrogen, 90_000, 300_000);
     assert_eq!(sheet(text), Ok(2));
     assert_eq!(sheet_line(text, 1), Ok(state));
     assert_eq!(sheet(b"0\n0\n"), Err(malformed(4, b"")));
@@ -589,4 +589,116 @@ fn longest_sheet() {
     assert_eq!(sheet_line(&too_long, 0), Err(Refusal::SheetTooLong));
     let line = &too_long[1..];
     assert_eq!(sheet(line), Err(malformed(0, line)));
+}
+
+/// The rows of a fluid keep their order, wherever those of the others stand.
+#[test]
+fn sheet_of_the_example() {
+    let [hydrogen, oxygen @ ..] = EXAMPLE_STATES;
+    let [first, second, third] = oxygen;
+    for rows in [
+        [hydrogen, first, second, third],
+        [first, hydrogen, second, third],
+        [first, second, third, hydrogen],
+    ] {
+        assert_eq!(write_sheet(&rows).as_deref(), Ok(EXAMPLE));
+    }
+    assert_ne!(
+        write_sheet(&[hydrogen, second, first, third]).as_deref(),
+        Ok(EXAMPLE)
+    );
+    assert_eq!(write_sheet(&[]).as_deref(), Ok(&b"0\n0\n0\n"[..]));
+}
+
+/// In a buffer with more room than it needs, with just as much, and with one byte less.
+#[test]
+fn sheet_in_a_buffer() {
+    let length = EXAMPLE.len();
+    for room in [length, length + 1, SHEET_MOST_BYTES, 2 * SHEET_MOST_BYTES] {
+        let mut buffer = vec![7; room];
+        let told = write_sheet_into(&EXAMPLE_STATES, &mut buffer);
+        assert_eq!(told, Ok(length));
+        let (sheet, behind) = buffer.split_at(length);
+        assert_eq!(sheet, EXAMPLE);
+        assert!(behind.iter().all(|&byte| byte == 7));
+    }
+    for room in [0, 1, length - 1] {
+        let mut buffer = vec![7; room];
+        let told = write_sheet_into(&EXAMPLE_STATES, &mut buffer);
+        assert_eq!(told, Err(Refusal::NoRoom));
+        assert_eq!(buffer, vec![7; room]);
+    }
+}
+
+/// Any number that fits is written and read again as it was, in range or not.
+#[test]
+fn numbers_of_a_written_sheet() {
+    for fluid in Fluid::ALL {
+        for number in [0, 1, 9, 10, 1 << 32, 1_000_000_000, 9_999_999_999] {
+            for state in [state_of(fluid, number, 7), state_of(fluid, 7, number)] {
+                let sheet = write_sheet(&[state, state]).expect("a sheet");
+                assert_eq!(sheet_line(&sheet, 1), Ok(state));
+            }
+        }
+        // the last two are 7 to whoever keeps 32 bits or takes the highest for a sign
+        for number in [10_000_000_000, u64::MAX, (1 << 34) + 7, (1 << 63) + 7] {
+            for state in [state_of(fluid, number, 7), state_of(fluid, 7, number)] {
+                assert_eq!(write_sheet(&[state]), Err(Refusal::TooManyDigits));
+            }
+        }
+    }
+}
+
+/// As many rows of each fluid as a section may have, and one more; and full sections of as many bytes as a sheet may
+/// have, and one more.
+#[test]
+fn full_sheets_that_are_written() {
+    for fluid in Fluid::ALL {
+        let rows = [state_of(fluid, 7, 0); SECTION_MOST_STATES + 1];
+        let written = write_sheet(&rows[1..]).expect("a sheet");
+        assert_eq!(sheet(&written), Ok(1000));
+        assert_eq!(write_sheet(&rows), Err(Refusal::ListsUnfit));
+    }
+    let wide = |fluid| [state_of(fluid, 9_999_999_999, 9_999_999_999); SECTION_MOST_STATES];
+    let mut rows = Fluid::ALL.map(wide).concat();
+    assert_eq!(write_sheet(&rows), Err(Refusal::NoRoom));
+    rows[..26].fill(state_of(Fluid::Parahydrogen, 9, 9));
+    rows[26].millikelvin = 99;
+    assert_eq!(write_sheet(&rows), Err(Refusal::NoRoom));
+    rows[26] = state_of(Fluid::Parahydrogen, 9, 99_999_999);
+    let written = write_sheet(&rows).expect("a sheet");
+    assert_eq!(
+        (written.len(), sheet(&written)),
+        (SHEET_MOST_BYTES, Ok(3000))
+    );
+    rows[26].pascals = 999_999_999;
+    assert_eq!(write_sheet(&rows), Err(Refusal::NoRoom));
+}
+
+/// Each refusal with all that come behind it, and with the faults in the lists of different fluids. The lists may share
+/// their memory, as they are only read.
+#[test]
+fn lists_of_a_sheet_that_are_refused() {
+    let [short, long, too_long] = [1, 1000, 1001].map(|length| vec![9_999_999_999; length]);
+    let digits = vec![10_000_000_000; 1000];
+    for (lists, number) in [
+        ([&digits, &digits, &short, &short, &long, &short], 8),
+        ([&digits, &digits, &long, &long, &too_long, &too_long], 8),
+        ([&short, &long, &long, &long, &digits, &digits], 8),
+        ([&long, &long, &long, &long, &long, &digits], 9),
+        ([&digits, &long, &long, &long, &long, &long], 9),
+        ([&long; 6], 10),
+        ([&short; 6], 0),
+    ] {
+        let mut buffer = vec![7; 2 * SHEET_MOST_BYTES];
+        let mut length = 7;
+        let lists = lists.map(Vec::as_slice);
+        let told = boundary::write_sheet(lists, &mut buffer, &mut length);
+        let written = if number == 0 { 3 * 24 } else { 0 };
+        assert_eq!((told, length), (number, written));
+        assert!(buffer[written as usize..].iter().all(|&byte| byte == 7));
+    }
+    for refusal in [Refusal::ListsUnfit, Refusal::TooManyDigits, Refusal::NoRoom] {
+        assert_eq!(Refusal::check(refusal.number()), Err(refusal));
+    }
 }

@@ -1,7 +1,7 @@
 //! Lists of several claims: with refused ones at every place, and of many; and lists of unequal lengths.
 
 use super::claims::{ask, ask_told, claim, roots, Claim, PART, SPLIT_STATES};
-use super::{unit, WORKED};
+use super::{combinations, unit, WORKED};
 use crate::call::Call;
 use crate::comparison::{Comparison, Outcome};
 use crate::workers::Unit;
@@ -21,8 +21,8 @@ const LONG: [usize; 6] = [255, 256, 1000, 1024, 4096, 65_536];
 const ANY_LISTS: usize = 200;
 const MOST_CLAIMS: usize = 256;
 
-/// So many lengths, from 0 on, are asked in all combinations.
-const LENGTHS: usize = 4;
+/// Asked in all combinations.
+const LENGTHS: [usize; 4] = [0, 1, 2, 3];
 
 pub fn units() -> Vec<Unit> {
     let mut units = vec![unit(PART, pairs)];
@@ -127,10 +127,10 @@ fn any_lists(comparison: &mut Comparison, seed: u64) -> Outcome {
 
 /// All combinations of short lengths: of claims that stand, and of refused ones.
 fn unequal_lengths(comparison: &mut Comparison) -> Outcome {
-    let standing: Vec<Claim> = standing(comparison).into_iter().take(LENGTHS).collect();
+    let longest = LENGTHS.len();
+    let standing: Vec<Claim> = standing(comparison).into_iter().take(longest).collect();
     let none: Vec<Claim> = standing.iter().map(|&claim| refused(claim)[0]).collect();
-    for combination in 0..LENGTHS.pow(5) {
-        let lengths = [0, 1, 2, 3, 4].map(|which| combination / LENGTHS.pow(which) % LENGTHS);
+    for lengths in combinations(&LENGTHS) {
         for claims in [&standing, &none] {
             ask_told(comparison, claims, lengths)?;
         }

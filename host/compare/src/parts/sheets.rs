@@ -46,7 +46,7 @@ fn ask_all(comparison: &mut Comparison, sheets: &[Vec<u8>]) -> Outcome {
     sheets.iter().try_for_each(|sheet| ask(comparison, sheet))
 }
 
-fn ask(comparison: &mut Comparison, sheet: &[u8]) -> Outcome {
+pub fn ask(comparison: &mut Comparison, sheet: &[u8]) -> Outcome {
     ask_beginning(comparison, &[sheet, BEHIND].concat(), sheet.len())
 }
 

@@ -10,6 +10,7 @@ use second::random::Random;
 use second::sheet::{print, EXAMPLE, LONGEST};
 use second::sheet_list::{full_sheet, WIDEST};
 use second::state::{Fluid, FLUIDS, HIGHEST_PRESSURE, HOTTEST, LOWEST_PRESSURE};
+use second::writer::section;
 use std::path::Path;
 use std::{fs, io};
 
@@ -211,10 +212,7 @@ fn full() -> Vec<u8> {
         while states.len() < 1000 {
             states.push(state(coldest, &mut random));
         }
-        sheet += "1000\n";
-        for [millikelvin, pascals] in states {
-            sheet += &format!("{millikelvin} {pascals}\n");
-        }
+        sheet += &section(&states);
     }
     sheet.into()
 }
@@ -229,12 +227,9 @@ fn sides() -> Vec<u8> {
     for Fluid { coldest, .. } in FLUIDS {
         let temperatures = numbers(coldest, 300_000, HOTTEST);
         let pressures = numbers(LOWEST_PRESSURE, 1_000_000, HIGHEST_PRESSURE);
-        sheet += &format!("{}\n", temperatures.len() * pressures.len());
-        for millikelvin in temperatures {
-            for pascals in &pressures {
-                sheet += &format!("{millikelvin} {pascals}\n");
-            }
-        }
+        let each = |millikelvin| pressures.iter().map(move |&pascals| [millikelvin, pascals]);
+        let states: Vec<[u64; 2]> = temperatures.into_iter().flat_map(each).collect();
+        sheet += &section(&states);
     }
     sheet.into()
 }

@@ -1,0 +1,4 @@
+-- The laws that belong to no one function. Each file cites only files that are named above it.
+pub mod Digits
+pub mod Holding
+pub mod Theorems

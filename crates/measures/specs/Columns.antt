@@ -1,0 +1,31 @@
+-- Document 02, C-11: what is to be written, "for each fluid a list of temperatures and a list of pressures".
+use mathlib.Core.List.{List, [], _∷_, map}
+use Prim.Native.Nat.{ℕ}
+use Rattle.sheets.specs.Grammar.{Pair}
+
+-- the two lists of a fluid
+pub record Columns : Type 0 where
+  pub millikelvin : List ℕ
+  pub pascals : List ℕ
+
+-- the states that two lists make: each temperature with the pressure at the same place
+abbrev pub paired : (millikelvin pascals : List ℕ) → List Pair
+paired [] pascals = []
+paired (temperature ∷ millikelvin) [] = []
+paired (temperature ∷ millikelvin) (pressure ∷ pascals) = record { millikelvin = temperature; pascals = pressure } ∷ paired millikelvin pascals
+
+abbrev pub pairsOf : Columns → List Pair
+pairsOf columns = paired (columns .millikelvin) (columns .pascals)
+
+-- the lists that the grammar writes from: a section for each fluid
+abbrev pub listsOf : List Columns → List (List Pair)
+listsOf [] = []
+listsOf (columns ∷ fluids) = pairsOf columns ∷ listsOf fluids
+
+-- hydrogen, then oxygen, then nitrogen
+abbrev pub fluidsOf : (hydrogenMillikelvin hydrogenPascals oxygenMillikelvin oxygenPascals nitrogenMillikelvin nitrogenPascals : List ℕ) → List Columns
+fluidsOf hydrogenMillikelvin hydrogenPascals oxygenMillikelvin oxygenPascals nitrogenMillikelvin nitrogenPascals =
+    record { millikelvin = hydrogenMillikelvin; pascals = hydrogenPascals }
+    ∷ record { millikelvin = oxygenMillikelvin; pascals = oxygenPascals }
+    ∷ record { millikelvin = nitrogenMillikelvin; pascals = nitrogenPascals }
+    ∷ []
