@@ -1,5 +1,5 @@
 -- Texts put into a buffer, one behind another, are one text. Assumes nothing.
-use mathlib.Core.Path.{_≡_, refl, sym, ap, ap₂, _∙_}
+use mathlib.Core.Path.{_≡_, sym, ap, ap₂, _∙_}
 use mathlib.Core.List.{List, [], _++_, append-assoc}
 use Prim.Native.Nat.{ℕ, _+_, _-_, _≤_}
 use native.Mathlib.Nat.{add-zero}
@@ -49,12 +49,12 @@ module _ (text before : List ℕ) (at : ℕ) (fits : at + length text ≤ length
   front-long : length (take at before ++ text) ≡ at + length text
   front-long = omega (arith, length-append (take at before) text, length-take-le at before (omega arith))
 
-  pub holding-long : length (holding text before at) ≡ length before
+  holding-long : length (holding text before at) ≡ length before
   holding-long =
       omega (arith, length-append (take at before) (text ++ drop (at + length text) before), length-append text (drop (at + length text) before), length-take-le at before (omega arith), length-drop (at + length text) before)
 
   -- another text behind it
-  pub holding-both : (other : List ℕ) → holding other (holding text before at) (at + length text) ≡ holding (text ++ other) before at
+  holding-both : (other : List ℕ) → holding other (holding text before at) (at + length text) ≡ holding (text ++ other) before at
   holding-both other =
       ap (λ (l : List ℕ). holding other l (at + length text)) (sym (append-assoc (take at before) text rest))
       ∙ ap₂ (λ (l m : List ℕ). l ++ (other ++ m)) (take-at (take at before ++ text) rest (at + length text) front-long) behind
@@ -74,6 +74,16 @@ module _ (text before : List ℕ) (at : ℕ) (fits : at + length text ≤ length
           ∙ drop-drop (length other) (at + length text) before
           ∙ ap (λ (n : ℕ). drop n before) same-place
 
+module _ {text before after : List ℕ} {at next : ℕ} (fits : at + length text ≤ length before) (holds : Holds text before at after next) where
+  pub after-long : length after ≡ length before
+  after-long = ap length (holds .is-after) ∙ holding-long text before at fits
+
+  -- the text stands behind what was there up to the place
+  pub up-to-end : take next after ≡ take at before ++ text
+  up-to-end =
+      ap₂ (λ (n : ℕ) (l : List ℕ). take n l) (holds .reaches) (holds .is-after ∙ sym (append-assoc (take at before) text (drop (at + length text) before)))
+      ∙ take-at (take at before ++ text) (drop (at + length text) before) (at + length text) (front-long text before at fits)
+
 pub both : {text other before between after : List ℕ} {at middle next : ℕ} → at + length text ≤ length before → Holds text before at between middle → Holds other between middle after next → Holds (text ++ other) before at after next
 both {text} {other} {before} {at = at} fits one two =
     record {
@@ -87,4 +97,4 @@ both {text} {other} {before} {at = at} fits one two =
 -- one text more, behind what is there
 pub put-next : {done text before between after : List ℕ} {at middle next : ℕ} → Holds done before at between middle → at + (length done + length text) ≤ length before → Puts text between middle after next → Holds (done ++ text) before at after next
 put-next {done} {text} {before} {at = at} holds fits puts =
-    both (omega arith) holds (put-with-room puts (omega (arith, holds .reaches, ap length (holds .is-after), holding-long done before at (omega arith))))
+    both (omega arith) holds (put-with-room puts (omega (arith, holds .reaches, after-long (omega arith) holds)))

@@ -1,12 +1,12 @@
 -- How many digits a number has, one more at a time, and how long a section is, one state line more at a time. Assumes nothing.
 use mathlib.Core.Path.{_≡_, refl, ap}
-use mathlib.Core.List.{List, _++_}
+use mathlib.Core.List.{List}
 use Prim.Native.Nat.{ℕ, suc, _+_, _-_, _*_, _^_, _≤_, _<_}
 use native.Mathlib.Numerals.{add-one}
 use native.Mathlib.Omega.{arith}
 use lib.ListN.{length, getD, length-append}
 use Rattle.buffers.proofs.Digits.{fewest-is-length}
-use Rattle.sheets.specs.Grammar.{Writable, decimal, Pair, WritablePair, line, stateLines, section}
+use Rattle.sheets.specs.Grammar.{Writable, decimal, WritablePair, line, stateLines, section}
 use Rattle.sheets.proofs.Numerals.{decimal-is-numeral}
 use Rattle.measures.specs.Columns.{paired}
 use Rattle.measures.specs.Inside.{Width, Section, SectionLength, stateLine}

@@ -1,5 +1,5 @@
 -- Document 02, C-11: what is to be written, "for each fluid a list of temperatures and a list of pressures".
-use mathlib.Core.List.{List, [], _∷_, map}
+use mathlib.Core.List.{List, [], _∷_}
 use Prim.Native.Nat.{ℕ}
 use Rattle.sheets.specs.Grammar.{Pair}
 

@@ -20,7 +20,10 @@ use Rattle.readings.proofs.Nexts.{NextIn}
 use Rattle.sheets.proofs.Passed.{Passed, none-passed, one-passed, all-passed}
 use Rattle.sheets.proofs.Written.{read-good}
 use Rattle.printing.specs.Prints.{LinesText, Prints}
-use Rattle.texts.specs.Buffer.{longestLine, Puts}
+use Rattle.buffers.specs.Puts.{Puts}
+use Rattle.buffers.proofs.Holding.{put-with-room, after-long, up-to-end}
+use Rattle.texts.specs.declared.Text.{Text}
+use Rattle.texts.specs.Buffer.{longestLine, bytesOf, Sized, Written}
 use Rattle.wording.specs.Wording.{LineText, FaultText}
 use Rattle.printing.specs.Buffer.{longestText}
 
@@ -34,6 +37,9 @@ lines-on (first ∷ states) state text line lines is-line = (
   lines-on states state (lines .1) line (lines .3) is-line,
   ap (λ (l : List ℕ). l ++ line) (lines .4) ∙ append-assoc (lines .0) (lines .1) line,
 )
+
+text-short : {text : Text} → Sized text → length (bytesOf text) ≤ longestLine
+text-short {text} sized = omega (arith, sized .short, length-take-le (text .length) (text .bytes) (sized .inside))
 
 pub record Gathered (bytes before : List ℕ) (cursor : Cursor) (buffer : List ℕ) (end : ℕ) : Type 0 where
   pub states : List State
@@ -60,21 +66,21 @@ module _ {bytes before : List ℕ} {cursor : Cursor} {buffer : List ℕ} {end : 
     on = one-passed bytes (gathered .states) state after (gathered .passed) comes
 
     -- the line that comes has room
-    pub has-room : end + longestLine ≤ length buffer
-    has-room =
+    pub gathers : {line : Text} {later : List ℕ} {next : ℕ} → Written (LineText state) line → Puts (bytesOf line) buffer end later next → Gathered bytes before after later next
+    gathers {line} written puts =
         let room = on .room in
-        omega (arith, gathered .short, gathered .same-length, room .states, room .begun, length-append (gathered .states) (state ∷ []))
-
-    pub gathers : {later : List ℕ} {next : ℕ} → Puts (LineText state) longestLine buffer end later next → Gathered bytes before after later next
-    gathers puts =
+        let short = text-short (written .sized) in
+        let one-more = length-append (gathered .states) (state ∷ []) in
+        let fits : end + length (bytesOf line) ≤ length buffer = omega (arith, gathered .short, gathered .same-length, room .states, room .begun) in
+        let holds = put-with-room puts fits in
         record {
           states = gathered .states ++ (state ∷ []);
           passed = on;
           are-lines =
-              subst (LinesText (gathered .states ++ (state ∷ []))) (sym (puts .stands))
-              (lines-on (gathered .states) state (take end buffer) (puts .text) (gathered .are-lines) (puts .is-text));
-          short = omega (arith, gathered .short, puts .short, puts .reaches, length-append (gathered .states) (state ∷ []));
-          same-length = puts .same-length ∙ gathered .same-length;
+              subst (LinesText (gathered .states ++ (state ∷ []))) (sym (up-to-end fits holds))
+              (lines-on (gathered .states) state (take end buffer) (bytesOf line) (gathered .are-lines) (written .is-line));
+          short = omega (arith, gathered .short, holds .reaches);
+          same-length = after-long fits holds ∙ gathered .same-length;
         }
 
   pub prints-all : NextIn allSections bytes cursor Next.Over → Counts end buffer × Prints bytes (take end buffer)
@@ -93,15 +99,18 @@ module _ {bytes before : List ℕ} {cursor : Cursor} {buffer : List ℕ} {end : 
         },
       )
 
-  module _ {later : List ℕ} {next : ℕ} where
+  module _ {line : Text} {later : List ℕ} {next : ℕ} (puts : Puts (bytesOf line) buffer 0 later next) where
     -- a fault is put at the start of the buffer, over any lines
-    alone : (reading : Reading) (puts : Puts (FaultText reading) longestLine buffer 0 later next) → Counts next later × FaultText reading (take next later)
-    alone reading puts =
-        (counts later next (omega (arith, puts .short, puts .reaches, puts .same-length, gathered .same-length)), subst (FaultText reading) (sym (puts .stands)) (puts .is-text))
+    alone : (reading : Reading) → Written (FaultText reading) line → Counts next later × FaultText reading (take next later)
+    alone reading written =
+        let short = text-short (written .sized) in
+        let fits : 0 + length (bytesOf line) ≤ length buffer = omega (arith, gathered .same-length) in
+        let holds = put-with-room puts fits in
+        (counts later next (omega (arith, holds .reaches, after-long fits holds)), subst (FaultText reading) (sym (up-to-end fits holds)) (written .is-line))
 
-    pub prints-fault : (place : ℕ) → NextIn allSections bytes cursor (Next.Malformed place) → Puts (FaultText (Malformed place)) longestLine buffer 0 later next → Counts next later × Prints bytes (take next later)
-    prints-fault place next-in puts =
-        let told = alone (Malformed place) puts in (
+    pub prints-fault : (place : ℕ) → NextIn allSections bytes cursor (Next.Malformed place) → Written (FaultText (Malformed place)) line → Counts next later × Prints bytes (take next later)
+    prints-fault place next-in written =
+        let told = alone (Malformed place) written in (
           told .0,
           record {
             reading = Malformed place;
@@ -110,5 +119,6 @@ module _ {bytes before : List ℕ} {cursor : Cursor} {buffer : List ℕ} {end : 
           },
         )
 
-    pub prints-too-long : readers.TooLong bytes → Puts (FaultText TooLong) longestLine buffer 0 later next → Counts next later × Prints bytes (take next later)
-    prints-too-long long puts = let told = alone TooLong puts in (told .0, record { reading = TooLong; reads-as = long-told bytes long; is-text = told .1 })
+    pub prints-too-long : readers.TooLong bytes → Written (FaultText TooLong) line → Counts next later × Prints bytes (take next later)
+    prints-too-long long written =
+        let told = alone TooLong written in (told .0, record { reading = TooLong; reads-as = long-told bytes long; is-text = told .1 })

@@ -1,12 +1,13 @@
 // What the program `sheet` prints (document 01, "State sheets"): a line for each state line, or for a refused
 // sheet only its own. The crate `wording` has what stands in a line.
-ghost use Prim.Native.Nat.{_+_, _≤_};
+ghost use Prim.Native.Nat.{_≤_};
 ghost use lib.ListN.{length, take};
 ghost use Rattle.io.specs.Counts.{Counts};
-ghost use Rattle.texts.specs.Texts.{Exactly};
-ghost use Rattle.texts.specs.Buffer.{longestLine, Puts, bytesOf, Sized};
+ghost use Rattle.buffers.specs.Puts.{Puts};
+ghost use Rattle.texts.specs.Buffer.{bytesOf, Sized};
 ghost use Rattle.printing.specs.Prints.{Prints};
 ghost use Rattle.printing.specs.Buffer.{longestText};
+use buffers::put;
 use lines::MOST_STATES;
 use lines::SECTIONS;
 use readings::Reading;
@@ -19,14 +20,13 @@ use wording::state_text;
 // As many of the longest lines as a sheet may have state lines.
 pub const LONGEST_TEXT: usize = LONGEST_LINE * (MOST_STATES * SECTIONS) as usize;
 
-fn put(buffer: &mut [u8], at: usize, line: Text) -> usize
-    requires { ⌜ (at + longestLine ≤ length (now buffer)) × Sized line ⌝ }
-    ensures { λ r. ⌜ Puts (Exactly (bytesOf line)) longestLine (now (buffer .entry)) at (now (buffer .exit)) r ⌝ }
+fn put_line(buffer: &mut [u8], at: usize, line: Text) -> usize
+    requires { ⌜ Sized line ⌝ }
+    ensures { λ r. ⌜ Puts (bytesOf line) (now (buffer .entry)) at (now (buffer .exit)) r ⌝ }
 {
     let text = line.bytes;
     let length = line.length;
-    let copied = bytes::copy(&text[..length], &mut buffer[at..]);
-    at + copied
+    put(buffer, at, &text[..length])
 }
 
 // What is printed is gathered line by line in one pass, and a fault takes the place of all lines before it.
@@ -42,7 +42,7 @@ fn gather(sheet: &[u8], buffer: &mut [u8]) -> usize
         match reader::next(sheet, cursor) {
             Next::State { state, after } => {
                 let line = state_text(state);
-                end = put(buffer, end, line);
+                end = put_line(buffer, end, line);
                 cursor = after;
             }
             Next::Over => {
@@ -50,11 +50,11 @@ fn gather(sheet: &[u8], buffer: &mut [u8]) -> usize
             }
             Next::Malformed { place } => {
                 let line = fault_text(Reading::Malformed { place });
-                return put(buffer, 0, line);
+                return put_line(buffer, 0, line);
             }
             Next::TooLong => {
                 let line = fault_text(Reading::TooLong);
-                return put(buffer, 0, line);
+                return put_line(buffer, 0, line);
             }
         }
     }

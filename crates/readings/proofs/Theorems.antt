@@ -1,6 +1,6 @@
 -- What is proved of the answers about a sheet: bytes are refused exactly where no lists write to them, what lists write is counted by their
 -- counts, and each contract fixes the answer. Assumes nothing.
-use mathlib.Core.Path.{_≡_, refl, sym, ap, subst, _∙_}
+use mathlib.Core.Path.{_≡_, sym, ap, subst, _∙_}
 use mathlib.Core.Logic.{_⊎_, inl, inr}
 use mathlib.Core.List.{List}
 use mathlib.Core.Option.{Option·some-injective}

@@ -32,10 +32,10 @@ each-digits (suc places) number = one-or-more (ltb number 10) refl (each-digits 
     one-or-more true e higher = let small : number < 10 = ltb-true number 10 e in (omega arith, omega arith, tt)
     one-or-more false e higher = each-append (digits places (number / 10)) (number % 10) (omega arith) higher
 
-at-most : (places number : ℕ) → length (digits places number) ≤ places
+pub digits-at-most : (places number : ℕ) → length (digits places number) ≤ places
 unfolding digits
-at-most zero number = omega arith
-at-most (suc places) number = one-or-more (ltb number 10) (at-most places (number / 10))
+digits-at-most zero number = omega arith
+digits-at-most (suc places) number = one-or-more (ltb number 10) (digits-at-most places (number / 10))
   where
     one-or-more : (t : Bool) → length (digits places (number / 10)) ≤ places → length (behind t number (digits places (number / 10))) ≤ suc places
     one-or-more true few = omega arith
@@ -97,7 +97,7 @@ decimal-is-numeral number writable =
     record {
       each-digit = each-digits 10 number;
       at-least-one = at-least (decimal number) (leads-decimal number writable);
-      at-most-ten = at-most 10 number;
+      at-most-ten = digits-at-most 10 number;
       no-leading-zero = λ rest same. no-zero (decimal number) rest (leads-decimal number writable) same;
     }
 

@@ -1,25 +1,52 @@
 -- A line put at the start of a buffer, which has room for it, is written there. Assumes nothing.
-use mathlib.Core.Path.{_≡_, sym, ap, subst, _∙_}
-use mathlib.Core.List.{List, [], _∷_}
+use mathlib.Core.Path.{_≡_, ap, subst, _∙_}
+use mathlib.Core.List.{List, [], _∷_, _++_, append-assoc}
 use Prim.Native.Nat.{ℕ, _+_, _*_, _≤_}
 use native.Mathlib.Omega.{arith}
-use lib.ListN.{length}
+use lib.ListN.{length, length-append}
 use borrow.Author.Tests.{le-leb}
 use Rattle.sheets.specs.Grammar.{lineEnd}
-use Rattle.texts.specs.Texts.{Exactly, Numbers, Line}
-use Rattle.texts.specs.Buffer.{longestWord, mostNumbers, mostDigits, longestLine, Puts, Written, Fitted}
-use Rattle.texts.proofs.Buffers.{both, seen-as}
+use Rattle.buffers.specs.Puts.{mostDigits, Holds, Puts}
+use Rattle.buffers.proofs.Holding.{after-long, up-to-end, both, put-with-room, put-next}
+use Rattle.texts.specs.Texts.{spaced, numbersText}
+use Rattle.texts.specs.Buffer.{longestWord, mostNumbers, longestLine, Written, Fitted}
+use Rattle.texts.proofs.Numbers.{spaced-short}
+
+numbers-short : (numbers : List ℕ) → length (numbersText numbers) ≤ length numbers * (1 + mostDigits)
+numbers-short [] = omega arith
+numbers-short (number ∷ numbers) = omega (arith, numbers-short numbers, spaced-short number, length-append (spaced number) (numbersText numbers))
 
 module _ (word numbers : List ℕ) where
   -- the word, the numbers and the line's end, one behind another; the last byte is said by an equation, so that another one is refused there
-  module _ {before with-word with-numbers after : List ℕ} {word-end numbers-end next last : ℕ} (puts-word : Puts (Exactly word) (length word) before 0 with-word word-end) (puts-numbers : Puts (Numbers numbers) (length numbers * (1 + mostDigits)) with-word word-end with-numbers numbers-end) (puts-last : Puts (Exactly (last ∷ [])) 1 with-numbers numbers-end after next) where
-    pub fitted : length word ≤ longestWord → length numbers ≤ mostNumbers → longestLine ≤ length before → last ≡ lineEnd → Written (Fitted word numbers) (record { bytes = after; length = next })
-    fitted short few large is-end =
-        let puts = both puts-word (both puts-numbers (seen-as (λ text same. same ∙ ap (λ (byte : ℕ). byte ∷ []) is-end) puts-last)) in
-        record {
-          sized = record { inside = omega (arith, puts .short, puts .reaches, puts .same-length); short = omega (arith, puts .short, puts .reaches) };
-          is-line = rw (le-leb (length word) longestWord short, le-leb (length numbers) mostNumbers few) (subst (Line word numbers) (sym (puts .stands)) (puts .is-text));
-        }
+  module _ {before with-word : List ℕ} {word-end : ℕ} (short : length word ≤ longestWord) (few : length numbers ≤ mostNumbers) (large : longestLine ≤ length before) (puts-word : Puts word before 0 with-word word-end) where
+    word-holds : Holds word before 0 with-word word-end
+    word-holds = put-with-room puts-word (omega arith)
+
+    -- the numbers have room behind the word
+    pub numbers-fit : word-end + length numbers * (1 + mostDigits) ≤ length with-word
+    numbers-fit = omega (arith, word-holds .reaches, after-long (omega arith) word-holds)
+
+    module _ {with-numbers after last : List ℕ} {numbers-end next : ℕ} (numbers-hold : Holds (numbersText numbers) with-word word-end with-numbers numbers-end) (puts-last : Puts last with-numbers numbers-end after next) (is-last : last ≡ lineEnd ∷ []) where
+      abbrev whole : List ℕ
+      whole = word ++ (numbersText numbers ++ (lineEnd ∷ []))
+
+      whole-short : length whole ≤ longestLine
+      whole-short =
+          omega (arith, length-append word (numbersText numbers ++ (lineEnd ∷ [])), length-append (numbersText numbers) (lineEnd ∷ []), numbers-short numbers)
+
+      line-holds : Holds whole before 0 after next
+      line-holds =
+          subst (λ (l : List ℕ). Holds l before 0 after next)
+          (append-assoc word (numbersText numbers) last ∙ ap (λ (l : List ℕ). word ++ (numbersText numbers ++ l)) is-last)
+          (put-next (both (omega arith) word-holds numbers-hold) (omega (arith, length-append word (numbersText numbers), numbers-short numbers, ap length is-last)) puts-last)
+
+      pub fitted : Written (Fitted word numbers) (record { bytes = after; length = next })
+      fitted =
+          let room : 0 + length whole ≤ length before = omega (arith, whole-short) in
+          record {
+            sized = record { inside = omega (arith, whole-short, line-holds .reaches, after-long room line-holds); short = omega (arith, whole-short, line-holds .reaches) };
+            is-line = rw (le-leb (length word) longestWord short, le-leb (length numbers) mostNumbers few) (up-to-end room line-holds);
+          }
 
   -- nothing, where the word or the numbers have no room
   pub unfitted : {bytes : List ℕ} → Fitted word numbers [] → Written (Fitted word numbers) (record { bytes = bytes; length = 0 })

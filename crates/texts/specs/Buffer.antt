@@ -1,11 +1,12 @@
--- What it means that a text holds a line, and to put a line into a buffer: `Puts` is what private functions promise.
+-- How long a line is at most, and what it means that a text holds one.
 use mathlib.Core.Path.{_≡_}
 use mathlib.Core.Bool.{cond}
-use mathlib.Core.List.{List, [], _++_}
+use mathlib.Core.List.{List, []}
 use Prim.Native.Nat.{ℕ, _+_, _*_, _≤_}
 use lib.Dec.{leb}
 use lib.ListN.{length, take}
 use Rattle.texts.specs.declared.Text.{Text}
+use Rattle.buffers.specs.Puts.{mostDigits}
 use Rattle.texts.specs.Texts.{Line}
 
 -- that of SPLIT and of SHEET
@@ -16,22 +17,9 @@ longestWord = 5
 abbrev pub mostNumbers : ℕ
 mostNumbers = 4
 
--- of a number of 64 bits
-abbrev pub mostDigits : ℕ
-mostDigits = 20
-
 -- a word, numbers with a space before each, and the line's end
 abbrev pub longestLine : ℕ
 longestLine = longestWord + mostNumbers * (1 + mostDigits) + 1
-
--- a text of this kind, of no more bytes than allowed, stands in the buffer behind what was there up to a place, and ends at the next
-pub record Puts (Kind : List ℕ → Type 0) (most : ℕ) (before : List ℕ) (at : ℕ) (after : List ℕ) (next : ℕ) : Type 0 where
-  pub text : List ℕ
-  pub is-text : Kind text
-  pub short : length text ≤ most
-  pub reaches : next ≡ at + length text
-  pub stands : take next after ≡ take at before ++ text
-  pub same-length : length after ≡ length before
 
 abbrev pub bytesOf : Text → List ℕ
 bytesOf text = take (text .length) (text .bytes)

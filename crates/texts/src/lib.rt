@@ -3,17 +3,18 @@
 // answers the place behind it.
 ghost use Prim.Native.Nat.{_+_, _*_, _≤_};
 ghost use lib.ListN.{length};
-ghost use Rattle.texts.specs.Texts.{Exactly, Digits, Spaced, Numbers};
-ghost use Rattle.texts.specs.Buffer.{mostDigits, Puts, Written, Fitted};
+ghost use Rattle.buffers.specs.Puts.{mostDigits, Holds};
+ghost use Rattle.texts.specs.Texts.{spaced, numbersText};
+ghost use Rattle.texts.specs.Buffer.{Written, Fitted};
+use buffers::MOST_DIGITS;
+use buffers::put;
+use buffers::put_number;
 
 // SPLIT and SHEET are the longest words.
 const LONGEST_WORD: usize = 5;
 
 // A SPLIT line has a root and a density of either side (document 02, C-18).
 const MOST_NUMBERS: usize = 4;
-
-// A number of 64 bits has at most 20 digits.
-const MOST_DIGITS: usize = 20;
 
 // A word, numbers with a space before each, and the line's end.
 pub const LONGEST_LINE: usize = LONGEST_WORD + MOST_NUMBERS * (1 + MOST_DIGITS) + 1;
@@ -24,26 +25,9 @@ pub struct Text {
     pub length: usize,
 }
 
-fn put(buffer: &mut [u8], at: usize, text: &[u8]) -> usize
-    requires { ⌜ at + length (now text) ≤ length (now buffer) ⌝ }
-    ensures { λ r. ⌜ Puts (Exactly (now (text .entry))) (length (now (text .entry))) (now (buffer .entry)) at (now (buffer .exit)) r ⌝ }
-{
-    let copied = bytes::copy(text, &mut buffer[at..]);
-    at + copied
-}
-
-fn put_number(buffer: &mut [u8], at: usize, number: u64) -> usize
-    requires { ⌜ at + mostDigits ≤ length (now buffer) ⌝ }
-    ensures { λ r. ⌜ Puts (Digits number) mostDigits (now (buffer .entry)) at (now (buffer .exit)) r ⌝ }
-{
-    let mut digits = [0u8; MOST_DIGITS];
-    let count = io::decimal(number, &mut digits);
-    put(buffer, at, &digits[..count])
-}
-
 fn put_spaced(buffer: &mut [u8], at: usize, number: u64) -> usize
     requires { ⌜ at + (1 + mostDigits) ≤ length (now buffer) ⌝ }
-    ensures { λ r. ⌜ Puts (Spaced number) (1 + mostDigits) (now (buffer .entry)) at (now (buffer .exit)) r ⌝ }
+    ensures { λ r. ⌜ Holds (spaced number) (now (buffer .entry)) at (now (buffer .exit)) r ⌝ }
 {
     let digits = put(buffer, at, b" ");
     put_number(buffer, digits, number)
@@ -51,7 +35,7 @@ fn put_spaced(buffer: &mut [u8], at: usize, number: u64) -> usize
 
 fn put_numbers(buffer: &mut [u8], at: usize, numbers: &[u64]) -> usize
     requires { ⌜ at + length (now numbers) * (1 + mostDigits) ≤ length (now buffer) ⌝ }
-    ensures { λ r. ⌜ Puts (Numbers (now (numbers .entry))) (length (now (numbers .entry)) * (1 + mostDigits)) (now (buffer .entry)) at (now (buffer .exit)) r ⌝ }
+    ensures { λ r. ⌜ Holds (numbersText (now (numbers .entry))) (now (buffer .entry)) at (now (buffer .exit)) r ⌝ }
 {
     let mut end = at;
     for taken in 0..numbers.len() {

@@ -8,12 +8,12 @@ use lib.ListN.{length, getD, length-append}
 use lib.Seq.{append-snoc}
 use Rattle.buffers.specs.Puts.{mostDigits, Holds, Puts}
 use Rattle.buffers.proofs.Digits.{digits-are-decimal}
-use Rattle.buffers.proofs.Holding.{holds-nothing, holding-long, both, put-next}
+use Rattle.buffers.proofs.Holding.{holds-nothing, after-long, both, put-next}
 use Rattle.sheets.specs.Grammar.{lineEnd, space, digits, decimal, Writable, pairText, line, stateLines, section}
 use Rattle.measures.specs.Columns.{paired}
 use Rattle.measures.specs.Inside.{Section, stateLine}
 use Rattle.writer.specs.Inside.{StateFits, SectionFits}
-use Rattle.measures.proofs.Sections.{leftPairs, count-first, none-left, line-first, next-writable, state-line-long, count-line-long}
+use Rattle.measures.proofs.Sections.{leftPairs, count-first, none-left, line-first, next-writable, state-line-long}
 
 -- a number and the text behind it, as a line begins
 number-put : {number : ℕ} {text before between after : List ℕ} {at middle next : ℕ} → Writable number → at + (length (decimal number) + length text) ≤ length before → Puts (digits mostDigits number) before at between middle → Puts text between middle after next → Holds (decimal number ++ text) before at after next
@@ -42,7 +42,7 @@ module _ {temperature pressure at : ℕ} {before with-temperature with-space wit
       first = number-put (fits .writable .temperature) (omega (arith, room)) puts-temperature puts-gap
 
       kept : length with-space ≡ length before
-      kept = ap length (first .is-after) ∙ holding-long (decimal temperature ++ gap) before at (omega (arith, room, length-append (decimal temperature) gap))
+      kept = after-long (omega (arith, room, length-append (decimal temperature) gap)) first
 
       second : Holds (decimal pressure ++ last) with-space pressure-start after next
       second =
@@ -68,7 +68,7 @@ module _ {millikelvin pascals before : List ℕ} {at taken : ℕ} {buffer : List
   whole-long = sym (length-append (written .done) (stateLines (leftPairs millikelvin pascals taken))) ∙ ap length (written .is-whole)
 
   pub buffer-long : length buffer ≡ length before
-  buffer-long = ap length (written .holds .is-after) ∙ holding-long (written .done) before at (omega (arith, written .room, whole-long))
+  buffer-long = after-long (omega (arith, written .room, whole-long)) (written .holds)
 
   module _ (below : taken < length millikelvin) where
     -- the line that comes has room
@@ -120,7 +120,7 @@ module _ {millikelvin pascals before : List ℕ} {at : ℕ} (fits : SectionFits 
     begins =
         record {
           lists = fits .lists;
-          room = omega (arith, fits .room, section-long, count-put .reaches, ap length (count-put .is-after), holding-long (line (decimal (length millikelvin))) before at count-room);
+          room = omega (arith, fits .room, section-long, count-put .reaches, after-long count-room count-put);
           within = omega arith;
           done = [];
           holds = holds-nothing buffer start;

@@ -1,7 +1,6 @@
 -- What is proved of the writer beside its contract: all lists and buffers have exactly one reply and one buffer after it; what is written is read as the same
 -- lists, and a sheet that is read and written again is the same bytes; where refused, and behind the sheet, the buffer is as it was. Assumes nothing.
-use mathlib.Core.Path.{_≡_, refl, sym, ap, ap₂, subst, _∙_}
-use mathlib.Core.Bool.{false}
+use mathlib.Core.Path.{_≡_, refl, sym, ap, subst, _∙_}
 use mathlib.Core.Logic.{_↔_, inl, inr, ⊎-elim}
 use mathlib.Core.List.{List, [], _∷_, _++_, append-nil}
 use mathlib.Core.Option.{some}
@@ -10,7 +9,6 @@ use native.Mathlib.Omega.{arith}
 use lib.ListN.{length, getD, take, drop, length-append, length-drop, drop-of-length-le, getElem?}
 use lib.Seq.{take-append-seam, getD-append-add, getD-drop}
 use Rattle.refusals.specs.Checks.{NoneOf, refuses, answers}
-use Rattle.refusals.proofs.Lists.{none-or-first}
 use Rattle.refusals.proofs.Theorems.{tells-once, none-is-answered, not-answered-is-refused, zero-is-answered}
 use Rattle.sheets.specs.declared.State.{State}
 use Rattle.sheets.specs.declared.Next.the-variants as Next
@@ -25,8 +23,8 @@ use Rattle.measures.specs.declared.reply.WriteReply.{WriteReply}
 use Rattle.measures.specs.declared.reply.WriteReply.the-variants as Reply
 use Rattle.measures.specs.declared.reply.WriteFigures.{WriteFigures}
 use Rattle.measures.specs.Columns.{Columns, listsOf}
-use Rattle.measures.specs.Checks.{Some, Unfit, HasTooManyDigits, writeChecks}
-use Rattle.measures.specs.Replies.{answered, refusedWith, figuresOf, Told}
+use Rattle.measures.specs.Checks.{writeChecks}
+use Rattle.measures.specs.Replies.{answered, figuresOf, Told}
 use Rattle.measures.specs.Inside.{Sections}
 use Rattle.measures.proofs.Telling.{makes-sections, each-section, told-length}
 use Rattle.measures.proofs.Theorems.{figures-determine-reply, every-list-is-told}

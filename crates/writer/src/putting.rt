@@ -1,7 +1,5 @@
 // A section's lines put into a buffer that has room for them, one behind another. Each function answers the
 // place behind what it put.
-ghost use Prim.Native.Nat.{_+_, _≤_};
-ghost use lib.ListN.{length};
 ghost use Rattle.buffers.specs.Puts.{Holds};
 ghost use Rattle.sheets.specs.Grammar.{section};
 ghost use Rattle.measures.specs.Columns.{paired};

@@ -7,47 +7,34 @@ use Rattle.buffers.specs.Puts.{has-room, no-room}
 use Rattle.buffers.proofs.Holding.{holding-copied}
 use Rattle.buffers.proofs.put.Statement.{statement}
 use Rattle.buffers.proofs.put.Tie as tie
-use Rattle.buffers.proofs.put.Reads as reads
-use Rattle.buffers.proofs.put.Lts as lts
-use Rattle.bytes.proofs.copy.Reads as copy-reads
 
--- src/lib.rt:15:9
 returns : tie.Need-returns
 returns c = no-room (omega arith) refl refl
 
--- src/lib.rt:17:8
 sub-if2 : tie.Need-sub-if2
 sub-if2 c = search needs
 
--- src/lib.rt:18:9
 returns-2 : tie.Need-returns-2
 returns-2 c = no-room (omega arith) refl refl
 
--- src/lib.rt:20:36
 sub-copy : tie.Need-sub-copy
 sub-copy c = search needs
 
--- src/lib.rt:20:36
 part-copy-start : tie.Need-part-copy-start
 part-copy-start c = search needs
 
--- src/lib.rt:20:36
 part-copy-end : tie.Need-part-copy-end
 part-copy-end c = search needs
 
--- src/lib.rt:20:9
 copy-requires : tie.Need-copy-requires
 copy-requires c κs = search needs
 
--- src/lib.rt:21:5
 add-result : tie.Need-add-result
 add-result c = search needs
 
--- src/lib.rt:11:1
 same-length : tie.Need-same-length
 same-length c = search needs
 
--- src/lib.rt:11:1
 returns-3 : tie.Need-returns-3
 returns-3 c =
     let copied = c .before .before in

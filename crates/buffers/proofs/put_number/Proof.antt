@@ -8,32 +8,22 @@ use Rattle.buffers.proofs.Digits.{no-more-digits, toolchain-digits}
 use Rattle.buffers.proofs.Holding.{puts-same}
 use Rattle.buffers.proofs.put_number.Statement.{statement}
 use Rattle.buffers.proofs.put_number.Tie as tie
-use Rattle.buffers.proofs.put_number.Reads as reads
-use Rattle.buffers.proofs.put_number.Lts as lts
-use Rattle.buffers.proofs.put.Reads as put-reads
-use Rattle.io.proofs.decimal.Reads as decimal-reads
 
--- src/lib.rt:29:9
 decimal-requires : tie.Need-decimal-requires
 decimal-requires c κs = search needs
 
--- src/lib.rt:30:21
 array-share-prefix-text : tie.Need-array-share-prefix-text
 array-share-prefix-text c = search needs
 
--- src/lib.rt:30:21
 slice-aggregate-put : tie.Need-slice-aggregate-put
 slice-aggregate-put c = search needs
 
--- src/lib.rt:30:5
 put-requires : tie.Need-put-requires
 put-requires c κs = search needs
 
--- src/lib.rt:25:1
 same-length : tie.Need-same-length
 same-length c = search needs
 
--- src/lib.rt:25:1
 few : (c : tie.After-decimal) → c .decimal .result ≤ mostDigits
 few c = no-more-digits (c .before .before .before .args .number) _ mostDigits (c .decimal .ensures .1 .0) (omega arith) (omega arith)
 

@@ -1,6 +1,5 @@
 -- `printing::gather` meets its contract. The loop's invariant is `Gathered`: the buffer holds a line for each state line passed, and these and
 -- the reading from where the cursor is make the reading from the start. The measure is how many bytes of the sheet are left. Assumes nothing.
-use mathlib.Core.Path.{_∙_}
 use Prim.Native.Nat.{_-_}
 use native.Mathlib.Omega.{arith}
 use borrow.Author.Needs.{needs}
@@ -9,8 +8,7 @@ use Rattle.sheets.specs.declared.Next.the-variants as Next
 use Rattle.sheets.specs.Grammar.{allSections}
 use Rattle.readings.proofs.Nexts.{NextIn, next-came}
 use Rattle.sheets.proofs.Walks.{comes-moves}
-use Rattle.texts.proofs.Buffers.{puts-written}
-use Rattle.printing.proofs.Gathered.{Gathered, begins, has-room, gathers, prints-all, prints-fault, prints-too-long}
+use Rattle.printing.proofs.Gathered.{Gathered, begins, gathers, prints-all, prints-fault, prints-too-long}
 use Rattle.printing.proofs.gather.Statement.{statement}
 use Rattle.printing.proofs.gather.Tie as tie
 
@@ -39,10 +37,8 @@ state-came c = next-came _ _ (Next.State _ _) (c .before .state .given .1) (c .b
 state-text-requires : tie.Need-state-text-requires Inv-loop μ-loop
 state-text-requires c κs = tt
 
-put-requires : tie.Need-put-requires Inv-loop μ-loop
-put-requires c κs =
-    let came = c .before .before in
-    (has-room (came .before .before .before .before .loop .inv) (came .before .before .before .before .before .before .before .before .pre) (state-came came .comes), c .before .state-text .ensures .sized)
+put-line-requires : tie.Need-put-line-requires Inv-loop μ-loop
+put-line-requires c κs = c .before .state-text .ensures .sized
 
 loop-less : tie.Need-loop-less Inv-loop μ-loop
 loop-less c =
@@ -52,7 +48,7 @@ loop-less c =
 loop-again : tie.Need-loop-again Inv-loop μ-loop
 loop-again c =
     let came = c .before .before .before .before .before in
-    gathers (came .before .before .before .before .loop .inv) (came .before .before .before .before .before .before .before .before .pre) (state-came came .comes) (puts-written (c .before .before .before .before .state-text .ensures) (c .before .before .put .ensures))
+    gathers (came .before .before .before .before .loop .inv) (came .before .before .before .before .before .before .before .before .pre) (state-came came .comes) (c .before .before .before .before .state-text .ensures) (c .before .before .put-line .ensures)
 
 enum-told : tie.Need-enum-told Inv-loop μ-loop
 enum-told c = search needs
@@ -69,16 +65,15 @@ enum-known-place c = search needs
 fault-text-requires : tie.Need-fault-text-requires Inv-loop μ-loop
 fault-text-requires c κs = tt
 
-put-requires-2 : tie.Need-put-requires-2 Inv-loop μ-loop
-put-requires-2 c κs = (omega (arith, c .before .before .before .before .before .before .loop .inv .same-length, c .before .before .before .before .before .before .before .before .before .before .pre), c .before .fault-text .ensures .sized)
+put-line-requires-2 : tie.Need-put-line-requires-2 Inv-loop μ-loop
+put-line-requires-2 c κs = c .before .fault-text .ensures .sized
 
 same-length-2 : tie.Need-same-length-2 Inv-loop μ-loop
-same-length-2 c = c .before .before .put2 .ensures .same-length ∙ c .before .before .before .before .before .before .before .before .before .loop .inv .same-length
+same-length-2 c = omega (arith, c .before .before .put-line2 .kept, c .before .before .before .before .before .before .before .before .before .loop .inv .same-length)
 
 returns-2 : tie.Need-returns-2 Inv-loop μ-loop
 returns-2 c =
-    prints-fault (c .before .before .before .before .before .before .before .before .before .loop .inv) (c .before .before .before .before .before .before .before .before .before .before .before .before .before .pre) _ (next-came _ _ (Next.Malformed _) (c .before .before .before .before .before .before .place .given .1) (c .before .before .before .before .before .before .before .before .next .ensures))
-    (puts-written (c .before .before .before .before .fault-text .ensures) (c .before .before .put2 .ensures))
+    prints-fault (c .before .before .before .before .before .before .before .before .before .loop .inv) (c .before .before .before .before .before .before .before .before .before .before .before .before .before .pre) (c .before .before .put-line2 .ensures) _ (next-came _ _ (Next.Malformed _) (c .before .before .before .before .before .before .place .given .1) (c .before .before .before .before .before .before .before .before .next .ensures)) (c .before .before .before .before .fault-text .ensures)
 
 enum-told-2 : tie.Need-enum-told-2 Inv-loop μ-loop
 enum-told-2 c = search needs
@@ -86,17 +81,16 @@ enum-told-2 c = search needs
 fault-text-requires-2 : tie.Need-fault-text-requires-2 Inv-loop μ-loop
 fault-text-requires-2 c κs = tt
 
-put-requires-3 : tie.Need-put-requires-3 Inv-loop μ-loop
-put-requires-3 c κs = (omega (arith, c .before .before .before .before .before .loop .inv .same-length, c .before .before .before .before .before .before .before .before .before .pre), c .before .fault-text2 .ensures .sized)
+put-line-requires-3 : tie.Need-put-line-requires-3 Inv-loop μ-loop
+put-line-requires-3 c κs = c .before .fault-text2 .ensures .sized
 
 same-length-3 : tie.Need-same-length-3 Inv-loop μ-loop
-same-length-3 c = c .before .before .put3 .ensures .same-length ∙ c .before .before .before .before .before .before .before .before .loop .inv .same-length
+same-length-3 c = omega (arith, c .before .before .put-line3 .kept, c .before .before .before .before .before .before .before .before .loop .inv .same-length)
 
 returns-3 : tie.Need-returns-3 Inv-loop μ-loop
 returns-3 c =
-    prints-too-long (c .before .before .before .before .before .before .before .before .loop .inv) (c .before .before .before .before .before .before .before .before .before .before .before .before .pre) (next-came _ _ Next.TooLong (c .before .before .before .before .before .enum-told2 .given .1) (c .before .before .before .before .before .before .before .next .ensures))
-    (puts-written (c .before .before .before .before .fault-text2 .ensures) (c .before .before .put3 .ensures))
+    prints-too-long (c .before .before .before .before .before .before .before .before .loop .inv) (c .before .before .before .before .before .before .before .before .before .before .before .before .pre) (c .before .before .put-line3 .ensures) (next-came _ _ Next.TooLong (c .before .before .before .before .before .enum-told2 .given .1) (c .before .before .before .before .before .before .before .next .ensures)) (c .before .before .before .before .fault-text2 .ensures)
 
 pub gather-spec : {M : Type 1} → statement M
 gather-spec =
-    tie.close (tie.spec Inv-loop μ-loop start-requires loop-holds next-requires enum-known-state state-text-requires put-requires loop-less loop-again enum-told same-length returns enum-known-place fault-text-requires put-requires-2 same-length-2 returns-2 enum-told-2 fault-text-requires-2 put-requires-3 same-length-3 returns-3)
+    tie.close (tie.spec Inv-loop μ-loop start-requires loop-holds next-requires enum-known-state state-text-requires put-line-requires loop-less loop-again enum-told same-length returns enum-known-place fault-text-requires put-line-requires-2 same-length-2 returns-2 enum-told-2 fault-text-requires-2 put-line-requires-3 same-length-3 returns-3)

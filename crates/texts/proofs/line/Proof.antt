@@ -3,17 +3,9 @@ use mathlib.Core.Path.{refl}
 use native.Mathlib.Omega.{arith}
 use borrow.Author.Needs.{needs}
 use borrow.Author.Tests.{le-leb, lt-leb}
-use Rattle.texts.proofs.Lines.{fitted, unfitted}
+use Rattle.texts.proofs.Lines.{numbers-fit, fitted, unfitted}
 use Rattle.texts.proofs.line.Statement.{statement}
 use Rattle.texts.proofs.line.Tie as tie
-
-returns-3 : tie.Need-returns-3
-returns-3 c =
-    let ended = c .before in
-    let numbered = ended .before .before .before .before in
-    let worded = numbered .before .before .before in
-    let asked = worded .before .before .before .before .before .before .args in
-    fitted (asked .word .now) (asked .numbers .now) (worded .put .ensures) (numbered .put-numbers .ensures) (ended .put2 .ensures) (omega arith) (omega arith) (omega arith) refl
 
 returns : tie.Need-returns
 returns c =
@@ -35,7 +27,10 @@ slice-aggregate-put-numbers : tie.Need-slice-aggregate-put-numbers
 slice-aggregate-put-numbers c = search needs
 
 put-numbers-requires : tie.Need-put-numbers-requires
-put-numbers-requires c κs = search needs
+put-numbers-requires c κs =
+    let worded = c .before .before in
+    let asked = worded .before .before .before .before .before .before .args in
+    numbers-fit (asked .word .now) (asked .numbers .now) (omega arith) (omega arith) (omega arith) (worded .put .ensures)
 
 slice-aggregate-put-2 : tie.Need-slice-aggregate-put-2
 slice-aggregate-put-2 c = search needs
@@ -46,6 +41,25 @@ slice-aggregate-put-3 c = search needs
 put-requires-2 : tie.Need-put-requires-2
 put-requires-2 c κs = search needs
 
+returns-3 : tie.Need-returns-3
+returns-3 c =
+    let ended = c .before in
+    let numbered = ended .before .before .before .before in
+    let worded = numbered .before .before .before in
+    let asked = worded .before .before .before .before .before .before .args in
+    fitted (asked .word .now) (asked .numbers .now) (omega arith) (omega arith) (omega arith) (worded .put .ensures) (numbered .put-numbers .ensures) (ended .put2 .ensures) refl
+
 pub line-spec : {M : Type 1} → statement M
 line-spec =
-    tie.close (tie.spec returns returns-2 slice-aggregate-put put-requires slice-aggregate-put-numbers put-numbers-requires slice-aggregate-put-2 slice-aggregate-put-3 put-requires-2 returns-3)
+    tie.close
+    (tie.spec
+    returns
+    returns-2
+    slice-aggregate-put
+    put-requires
+    slice-aggregate-put-numbers
+    put-numbers-requires
+    slice-aggregate-put-2
+    slice-aggregate-put-3
+    put-requires-2
+    returns-3)

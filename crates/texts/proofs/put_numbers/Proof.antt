@@ -1,10 +1,9 @@
--- `texts::put_numbers` meets its contract. The loop's invariant is `SoFar`: the numbers taken were put, each behind a space. The measure is how
+-- `texts::put_numbers` meets its contract. The loop's invariant is `SoFar`: what was put, and the numbers that are left, make all of them. The measure is how
 -- many are left. Assumes nothing.
 use mathlib.Core.Path.{refl}
 use Prim.Native.Nat.{_-_}
 use native.Mathlib.Omega.{arith}
-use Rattle.texts.proofs.Numbers.{SoFar, none-taken, one-more-taken, all-taken}
-use borrow.Author.Needs.{needs}
+use Rattle.texts.proofs.Numbers.{SoFar, none-taken, between-long, one-fits, one-more-taken, all-taken}
 use Rattle.texts.proofs.put_numbers.Statement.{statement}
 use Rattle.texts.proofs.put_numbers.Tie as tie
 
@@ -14,33 +13,45 @@ Inv-loop buffer₀ at numbers end₀ taken₀ taken-end buffer end taken = SoFar
 abbrev μ-loop : tie.MeasureT-loop
 μ-loop buffer₀ at numbers end₀ taken₀ taken-end buffer end taken = taken-end - taken
 
+loop-holds : tie.Need-loop-holds Inv-loop μ-loop
+loop-holds c = none-taken _ _ _ (c .before .before .pre)
+
+mul-put-spaced : tie.Need-mul-put-spaced Inv-loop μ-loop
+mul-put-spaced c = omega arith
+
+shared-slice-read-put-spaced : tie.Need-shared-slice-read-put-spaced Inv-loop μ-loop
+shared-slice-read-put-spaced c = omega arith
+
+put-spaced-requires : tie.Need-put-spaced-requires Inv-loop μ-loop
+put-spaced-requires c κs = one-fits (c .before .before .before .loop .inv) (omega arith)
+
+add-taken : tie.Need-add-taken Inv-loop μ-loop
+add-taken c = omega arith
+
+loop-less : tie.Need-loop-less Inv-loop μ-loop
+loop-less c = omega arith
+
+loop-again : tie.Need-loop-again Inv-loop μ-loop
+loop-again c = one-more-taken (c .before .before .before .before .before .before .loop .inv) (omega arith) (c .before .before .put-spaced .ensures) refl
+
+same-length : tie.Need-same-length Inv-loop μ-loop
+same-length c = omega (arith, between-long (c .before .loop .inv))
+
 returns : tie.Need-returns Inv-loop μ-loop
 returns c = all-taken (c .before .loop .inv) (omega arith)
 
-loop-holds : tie.Need-loop-holds Inv-loop μ-loop
-loop-holds c = none-taken _ _ _
-
-loop-again : tie.Need-loop-again Inv-loop μ-loop
-loop-again c = one-more-taken (c .before .before .before .before .before .before .loop .inv) (c .before .before .put-spaced .ensures) (omega arith) refl
-
-mul-put-spaced : tie.Need-mul-put-spaced Inv-loop μ-loop
-mul-put-spaced c = search needs
-
-shared-slice-read-put-spaced : tie.Need-shared-slice-read-put-spaced Inv-loop μ-loop
-shared-slice-read-put-spaced c = search needs
-
-put-spaced-requires : tie.Need-put-spaced-requires Inv-loop μ-loop
-put-spaced-requires c κs = let so-far = c .before .before .before .loop .inv in omega (arith, so-far .within, so-far .puts .short, so-far .puts .reaches, so-far .puts .same-length)
-
-add-taken : tie.Need-add-taken Inv-loop μ-loop
-add-taken c = search needs
-
-loop-less : tie.Need-loop-less Inv-loop μ-loop
-loop-less c = search needs
-
-same-length : tie.Need-same-length Inv-loop μ-loop
-same-length c = c .before .loop .inv .puts .same-length
-
 pub put-numbers-spec : {M : Type 1} → statement M
 put-numbers-spec =
-    tie.close (tie.spec Inv-loop μ-loop loop-holds mul-put-spaced shared-slice-read-put-spaced put-spaced-requires add-taken loop-less loop-again same-length returns)
+    tie.close
+    (tie.spec
+    Inv-loop
+    μ-loop
+    loop-holds
+    mul-put-spaced
+    shared-slice-read-put-spaced
+    put-spaced-requires
+    add-taken
+    loop-less
+    loop-again
+    same-length
+    returns)

@@ -1,12 +1,10 @@
 -- `writer::write` meets its contract: what was told of the lists, and the three sections one behind another where that was a length. Assumes nothing.
-use mathlib.Core.Path.{_≡_}
 use mathlib.Core.List.{List}
-use Prim.Native.Nat.{_+_}
 use native.Mathlib.Omega.{arith}
 use borrow.Author.Needs.{needs}
 use lib.ListN.{length}
-use Rattle.sheets.specs.Grammar.{Pair, section, sheet}
-use Rattle.measures.specs.Columns.{Columns, paired, listsOf, fluidsOf}
+use Rattle.sheets.specs.Grammar.{Pair}
+use Rattle.measures.specs.Columns.{Columns, paired, fluidsOf}
 use Rattle.measures.proofs.Sections.{three-long}
 use Rattle.writer.proofs.Sheets.{second-room, third-room, all-put}
 use Rattle.measures.proofs.Telling.{Passes, told-length}
