@@ -47,15 +47,4 @@ returns-3 c =
 
 pub put-spec : {M : Type 1} → statement M
 put-spec =
-    tie.close
-    (tie.spec
-    returns
-    sub-if2
-    returns-2
-    sub-copy
-    part-copy-start
-    part-copy-end
-    copy-requires
-    add-result
-    same-length
-    returns-3)
+    tie.close (tie.spec returns sub-if2 returns-2 sub-copy part-copy-start part-copy-end copy-requires add-result same-length returns-3)

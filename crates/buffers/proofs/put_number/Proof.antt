@@ -35,11 +35,4 @@ returns c =
 
 pub put-number-spec : {M : Type 1} → statement M
 put-number-spec =
-    tie.close
-    (tie.spec
-    decimal-requires
-    array-share-prefix-text
-    slice-aggregate-put
-    put-requires
-    same-length
-    returns)
+    tie.close (tie.spec decimal-requires array-share-prefix-text slice-aggregate-put put-requires same-length returns)

@@ -71,17 +71,4 @@ returns-5 c = tells-length (asked (c .before .before .before .before .before .be
 
 pub measure-spec : {M : Type 1} → statement M
 measure-spec =
-    tie.close
-    (tie.spec
-    any-unfit-requires
-    returns
-    any-over-ten-digits-requires
-    returns-2
-    section-length-requires
-    section-length-requires-2
-    section-length-requires-3
-    add-length
-    add-length-2
-    returns-3
-    returns-4
-    returns-5)
+    tie.close (tie.spec any-unfit-requires returns any-over-ten-digits-requires returns-2 section-length-requires section-length-requires-2 section-length-requires-3 add-length add-length-2 returns-3 returns-4 returns-5)

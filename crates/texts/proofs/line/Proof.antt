@@ -51,15 +51,4 @@ returns-3 c =
 
 pub line-spec : {M : Type 1} → statement M
 line-spec =
-    tie.close
-    (tie.spec
-    returns
-    returns-2
-    slice-aggregate-put
-    put-requires
-    slice-aggregate-put-numbers
-    put-numbers-requires
-    slice-aggregate-put-2
-    slice-aggregate-put-3
-    put-requires-2
-    returns-3)
+    tie.close (tie.spec returns returns-2 slice-aggregate-put put-requires slice-aggregate-put-numbers put-numbers-requires slice-aggregate-put-2 slice-aggregate-put-3 put-requires-2 returns-3)

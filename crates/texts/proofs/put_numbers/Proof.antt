@@ -42,16 +42,4 @@ returns c = all-taken (c .before .loop .inv) (omega arith)
 
 pub put-numbers-spec : {M : Type 1} → statement M
 put-numbers-spec =
-    tie.close
-    (tie.spec
-    Inv-loop
-    μ-loop
-    loop-holds
-    mul-put-spaced
-    shared-slice-read-put-spaced
-    put-spaced-requires
-    add-taken
-    loop-less
-    loop-again
-    same-length
-    returns)
+    tie.close (tie.spec Inv-loop μ-loop loop-holds mul-put-spaced shared-slice-read-put-spaced put-spaced-requires add-taken loop-less loop-again same-length returns)

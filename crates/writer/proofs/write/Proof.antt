@@ -81,18 +81,4 @@ returns-4 c = writes-nothing (asked (c .before .before .before .before .before .
 
 pub write-spec : {M : Type 1} → statement M
 write-spec =
-    tie.close
-    (tie.spec
-    measure-requires
-    enum-known-measured
-    put-section-requires
-    put-section-requires-2
-    put-section-requires-3
-    enum-told
-    enum-told-2
-    enum-told-3
-    same-length
-    returns
-    returns-2
-    returns-3
-    returns-4)
+    tie.close (tie.spec measure-requires enum-known-measured put-section-requires put-section-requires-2 put-section-requires-3 enum-told enum-told-2 enum-told-3 same-length returns returns-2 returns-3 returns-4)

@@ -48,17 +48,4 @@ returns-6 c =
 
 pub any-over-ten-digits-spec : {M : Type 1} → statement M
 any-over-ten-digits-spec =
-    tie.close
-    (tie.spec
-    over-ten-digits-requires
-    returns
-    over-ten-digits-requires-2
-    returns-2
-    over-ten-digits-requires-3
-    returns-3
-    over-ten-digits-requires-4
-    returns-4
-    over-ten-digits-requires-5
-    returns-5
-    over-ten-digits-requires-6
-    returns-6)
+    tie.close (tie.spec over-ten-digits-requires returns over-ten-digits-requires-2 returns-2 over-ten-digits-requires-3 returns-3 over-ten-digits-requires-4 returns-4 over-ten-digits-requires-5 returns-5 over-ten-digits-requires-6 returns-6)

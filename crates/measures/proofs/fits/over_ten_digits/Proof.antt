@@ -38,15 +38,4 @@ returns-2 c = all-passed (c .before .loop .inv) (omega arith)
 
 pub over-ten-digits-spec : {M : Type 1} → statement M
 over-ten-digits-spec =
-    tie.close
-    (tie.spec
-    Inv-loop
-    μ-loop
-    loop-holds
-    mul-if1
-    shared-slice-read-if1
-    returns
-    add-taken
-    loop-less
-    loop-again
-    returns-2)
+    tie.close (tie.spec Inv-loop μ-loop loop-holds mul-if1 shared-slice-read-if1 returns add-taken loop-less loop-again returns-2)

@@ -63,23 +63,4 @@ returns c = all-measured (c .before .loop .inv) (omega arith)
 
 pub section-length-spec : {M : Type 1} → statement M
 section-length-spec =
-    tie.close
-    (tie.spec
-    Inv-loop
-    μ-loop
-    width-requires
-    add-length
-    loop-holds
-    mul-width
-    shared-slice-read-width
-    width-requires-2
-    mul-width-2
-    shared-slice-read-width-2
-    width-requires-3
-    add-length-2
-    add-length-3
-    add-length-4
-    add-taken
-    loop-less
-    loop-again
-    returns)
+    tie.close (tie.spec Inv-loop μ-loop width-requires add-length loop-holds mul-width shared-slice-read-width width-requires-2 mul-width-2 shared-slice-read-width-2 width-requires-3 add-length-2 add-length-3 add-length-4 add-taken loop-less loop-again returns)

@@ -64,21 +64,4 @@ returns c =
 
 pub put-section-spec : {M : Type 1} → statement M
 put-section-spec =
-    tie.close
-    (tie.spec
-    Inv-loop
-    μ-loop
-    put-number-requires
-    slice-aggregate-put
-    put-requires
-    loop-holds
-    mul-put-state
-    shared-slice-read-put-state
-    mul-put-state-2
-    shared-slice-read-put-state-2
-    put-state-requires
-    add-taken
-    loop-less
-    loop-again
-    same-length
-    returns)
+    tie.close (tie.spec Inv-loop μ-loop put-number-requires slice-aggregate-put put-requires loop-holds mul-put-state shared-slice-read-put-state mul-put-state-2 shared-slice-read-put-state-2 put-state-requires add-taken loop-less loop-again same-length returns)

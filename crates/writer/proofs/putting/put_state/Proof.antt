@@ -36,13 +36,4 @@ returns c =
 
 pub put-state-spec : {M : Type 1} → statement M
 put-state-spec =
-    tie.close
-    (tie.spec
-    put-number-requires
-    slice-aggregate-put
-    put-requires
-    put-number-requires-2
-    slice-aggregate-put-2
-    put-requires-2
-    same-length
-    returns)
+    tie.close (tie.spec put-number-requires slice-aggregate-put put-requires put-number-requires-2 slice-aggregate-put-2 put-requires-2 same-length returns)

@@ -30,13 +30,4 @@ returns-4 c = rw (c .enum-told3 .given .1) refl
 
 pub figures-spec : {M : Type 1} → statement M
 figures-spec =
-    tie.close
-    (tie.spec
-    enum-known-self
-    enum-told
-    enum-told-2
-    enum-told-3
-    returns
-    returns-2
-    returns-3
-    returns-4)
+    tie.close (tie.spec enum-known-self enum-told enum-told-2 enum-told-3 returns returns-2 returns-3 returns-4)
