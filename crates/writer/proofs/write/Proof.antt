@@ -5,28 +5,31 @@ use borrow.Author.Needs.{needs}
 use lib.ListN.{length}
 use Rattle.sheets.specs.Grammar.{Pair}
 use Rattle.measures.specs.Columns.{Columns, paired, fluidsOf}
-use Rattle.measures.proofs.Sections.{three-long}
-use Rattle.writer.proofs.Sheets.{second-room, third-room, all-put}
+use Rattle.writer.proofs.Sheets.{first-room, second-room, third-room, all-put}
 use Rattle.measures.proofs.Telling.{Passes, told-length}
 use Rattle.writer.proofs.Telling.{writes-nothing, writes-sheet}
 use Rattle.writer.proofs.write.Statement.{statement}
 use Rattle.writer.proofs.write.Tie as tie
 
-abbrev asked : (c : tie.Start) → List Columns
+abbrev asked : tie.Start → List Columns
 asked c =
     fluidsOf (c .args .hydrogen-millikelvin .now) (c .args .hydrogen-pascals .now) (c .args .oxygen-millikelvin .now) (c .args .oxygen-pascals .now) (c .args .nitrogen-millikelvin .now) (c .args .nitrogen-pascals .now)
 
-abbrev hydrogen : (c : tie.Start) → List Pair
-hydrogen c = paired (c .args .hydrogen-millikelvin .now) (c .args .hydrogen-pascals .now)
+-- where a length was told: the lists and the buffer as they came
+abbrev begin : tie.After-known-told → tie.Start
+begin c = c .before .before .before .before .before .before .before .before .before .before .before
 
-abbrev oxygen : (c : tie.Start) → List Pair
-oxygen c = paired (c .args .oxygen-millikelvin .now) (c .args .oxygen-pascals .now)
+abbrev hydrogen : tie.After-known-told → List Pair
+hydrogen c = paired (begin c .args .hydrogen-millikelvin .now) (begin c .args .hydrogen-pascals .now)
 
-abbrev nitrogen : (c : tie.Start) → List Pair
-nitrogen c = paired (c .args .nitrogen-millikelvin .now) (c .args .nitrogen-pascals .now)
+abbrev oxygen : tie.After-known-told → List Pair
+oxygen c = paired (begin c .args .oxygen-millikelvin .now) (begin c .args .oxygen-pascals .now)
 
-passes : (c : tie.After-known-told) → Passes (asked (c .before .before .before .before .before .before .before .before .before .before .before)) (length (c .before .before .before .before .before .before .before .before .before .before .before .args .buffer .now)) (c .before .measured .given .0 .0)
-passes c = told-length (asked (c .before .before .before .before .before .before .before .before .before .before .before)) (rw (c .before .measured .given .1) at (c .before .before .before .measure .ensures))
+abbrev nitrogen : tie.After-known-told → List Pair
+nitrogen c = paired (begin c .args .nitrogen-millikelvin .now) (begin c .args .nitrogen-pascals .now)
+
+passes : (c : tie.After-known-told) → Passes (asked (begin c)) (length (begin c .args .buffer .now)) (c .before .measured .given .0 .0)
+passes c = told-length (asked (begin c)) (rw (c .before .measured .given .1) at (c .before .before .before .measure .ensures))
 
 measure-requires : tie.Need-measure-requires
 measure-requires c κs = search needs
@@ -35,20 +38,22 @@ enum-known-measured : tie.Need-enum-known-measured
 enum-known-measured c = search needs
 
 put-section-requires : tie.Need-put-section-requires
-put-section-requires c κs = let told = passes (c .before) in record { lists = told .sections .0; room = omega (arith, told .has-room, three-long (hydrogen (c .before .before .before .before .before .before .before .before .before .before .before .before)) (oxygen (c .before .before .before .before .before .before .before .before .before .before .before .before)) (nitrogen (c .before .before .before .before .before .before .before .before .before .before .before .before))) }
+put-section-requires c κs =
+    let told = c .before in
+    record { lists = passes told .sections .0; room = first-room (hydrogen told) (oxygen told) (nitrogen told) (passes told .has-room) }
 
 put-section-requires-2 : tie.Need-put-section-requires-2
 put-section-requires-2 c κs =
-    let put = c .before .before .before in
-    let told = passes (put .before .before) in
-    record { lists = told .sections .1 .0; room = second-room (hydrogen (put .before .before .before .before .before .before .before .before .before .before .before .before .before)) (oxygen (put .before .before .before .before .before .before .before .before .before .before .before .before .before)) (nitrogen (put .before .before .before .before .before .before .before .before .before .before .before .before .before)) (told .has-room) (put .put-section .ensures) }
+    let first = c .before .before .before in
+    let told = first .before .before in
+    record { lists = passes told .sections .1 .0; room = second-room (hydrogen told) (oxygen told) (nitrogen told) (passes told .has-room) (first .put-section .ensures) }
 
 put-section-requires-3 : tie.Need-put-section-requires-3
 put-section-requires-3 c κs =
-    let next = c .before .before .before in
-    let put = next .before .before .before .before in
-    let told = passes (put .before .before) in
-    record { lists = told .sections .1 .1 .0; room = third-room (hydrogen (put .before .before .before .before .before .before .before .before .before .before .before .before .before)) (oxygen (put .before .before .before .before .before .before .before .before .before .before .before .before .before)) (nitrogen (put .before .before .before .before .before .before .before .before .before .before .before .before .before)) (told .has-room) (put .put-section .ensures) (next .put-section2 .ensures) }
+    let second = c .before .before .before in
+    let first = second .before .before .before .before in
+    let told = first .before .before in
+    record { lists = passes told .sections .1 .1 .0; room = third-room (hydrogen told) (oxygen told) (nitrogen told) (passes told .has-room) (first .put-section .ensures) (second .put-section2 .ensures) }
 
 enum-told : tie.Need-enum-told
 enum-told c = search needs
@@ -64,11 +69,12 @@ same-length c = search needs
 
 returns : tie.Need-returns
 returns c =
-    let last = c .before .before in
-    let next = last .before .before .before .before in
-    let put = next .before .before .before .before in
-    let told = passes (put .before .before) in
-    writes-sheet (asked (put .before .before .before .before .before .before .before .before .before .before .before .before .before)) told (all-put (hydrogen (put .before .before .before .before .before .before .before .before .before .before .before .before .before)) (oxygen (put .before .before .before .before .before .before .before .before .before .before .before .before .before)) (nitrogen (put .before .before .before .before .before .before .before .before .before .before .before .before .before)) (told .has-room) (put .put-section .ensures) (next .put-section2 .ensures) (last .put-section3 .ensures))
+    let third = c .before .before in
+    let second = third .before .before .before .before in
+    let first = second .before .before .before .before in
+    let told = first .before .before in
+    writes-sheet (asked (begin told)) (passes told)
+    (all-put (hydrogen told) (oxygen told) (nitrogen told) (passes told .has-room) (first .put-section .ensures) (second .put-section2 .ensures) (third .put-section3 .ensures))
 
 returns-2 : tie.Need-returns-2
 returns-2 c = writes-nothing (asked (c .before .before .before .before .before .before .before .before .before .before)) (λ same. omega arith) (rw (c .enum-told .given .1) at (c .before .before .measure .ensures))
