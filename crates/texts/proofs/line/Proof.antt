@@ -7,6 +7,14 @@ use Rattle.texts.proofs.Lines.{numbers-fit, fitted, unfitted}
 use Rattle.texts.proofs.line.Statement.{statement}
 use Rattle.texts.proofs.line.Tie as tie
 
+returns-3 : tie.Need-returns-3
+returns-3 c =
+    let ended = c .before in
+    let numbered = ended .before .before .before .before in
+    let worded = numbered .before .before .before in
+    let asked = worded .before .before .before .before .before .before .args in
+    fitted (asked .word .now) (asked .numbers .now) (omega arith) (omega arith) (omega arith) (worded .put .ensures) (numbered .put-numbers .ensures) (ended .put2 .ensures) refl
+
 returns : tie.Need-returns
 returns c =
     let asked = c .before .before .before .args in
@@ -40,14 +48,6 @@ slice-aggregate-put-3 c = search needs
 
 put-requires-2 : tie.Need-put-requires-2
 put-requires-2 c κs = search needs
-
-returns-3 : tie.Need-returns-3
-returns-3 c =
-    let ended = c .before in
-    let numbered = ended .before .before .before .before in
-    let worded = numbered .before .before .before in
-    let asked = worded .before .before .before .before .before .before .args in
-    fitted (asked .word .now) (asked .numbers .now) (omega arith) (omega arith) (omega arith) (worded .put .ensures) (numbered .put-numbers .ensures) (ended .put2 .ensures) refl
 
 pub line-spec : {M : Type 1} → statement M
 line-spec =

@@ -13,8 +13,14 @@ Inv-loop buffer₀ at numbers end₀ taken₀ taken-end buffer end taken = SoFar
 abbrev μ-loop : tie.MeasureT-loop
 μ-loop buffer₀ at numbers end₀ taken₀ taken-end buffer end taken = taken-end - taken
 
+returns : tie.Need-returns Inv-loop μ-loop
+returns c = all-taken (c .before .loop .inv) (omega arith)
+
 loop-holds : tie.Need-loop-holds Inv-loop μ-loop
 loop-holds c = none-taken _ _ _ (c .before .before .pre)
+
+loop-again : tie.Need-loop-again Inv-loop μ-loop
+loop-again c = one-more-taken (c .before .before .before .before .before .before .loop .inv) (omega arith) (c .before .before .put-spaced .ensures) refl
 
 mul-put-spaced : tie.Need-mul-put-spaced Inv-loop μ-loop
 mul-put-spaced c = omega arith
@@ -31,14 +37,8 @@ add-taken c = omega arith
 loop-less : tie.Need-loop-less Inv-loop μ-loop
 loop-less c = omega arith
 
-loop-again : tie.Need-loop-again Inv-loop μ-loop
-loop-again c = one-more-taken (c .before .before .before .before .before .before .loop .inv) (omega arith) (c .before .before .put-spaced .ensures) refl
-
 same-length : tie.Need-same-length Inv-loop μ-loop
 same-length c = omega (arith, between-long (c .before .loop .inv))
-
-returns : tie.Need-returns Inv-loop μ-loop
-returns c = all-taken (c .before .loop .inv) (omega arith)
 
 pub put-numbers-spec : {M : Type 1} → statement M
 put-numbers-spec =

@@ -14,6 +14,21 @@ Inv-loop buffer₀ at millikelvin pascals count count-end end₀ taken₀ buffer
 abbrev μ-loop : tie.MeasureT-loop
 μ-loop buffer₀ at millikelvin pascals count count-end end₀ taken₀ buffer end taken = count - taken
 
+returns : tie.Need-returns Inv-loop μ-loop
+returns c =
+    let ended = c .before .before .before .before in
+    let counted = ended .before .before .before .before .before in
+    section-put (counted .before .before .before .before .before .pre) (counted .put-number .ensures) (ended .put .ensures) refl refl (all-written (c .before .loop .inv) (omega arith))
+
+loop-holds : tie.Need-loop-holds Inv-loop μ-loop
+loop-holds c =
+    let ended = c .before .before in
+    let counted = ended .before .before .before .before .before in
+    begins (counted .before .before .before .before .before .pre) (counted .put-number .ensures) (ended .put .ensures) refl refl
+
+loop-again : tie.Need-loop-again Inv-loop μ-loop
+loop-again c = state-written (c .before .before .before .before .before .before .before .loop .inv) (omega arith) (c .before .before .put-state .ensures)
+
 put-number-requires : tie.Need-put-number-requires Inv-loop μ-loop
 put-number-requires c κs = search needs
 
@@ -22,12 +37,6 @@ slice-aggregate-put c = search needs
 
 put-requires : tie.Need-put-requires Inv-loop μ-loop
 put-requires c κs = search needs
-
-loop-holds : tie.Need-loop-holds Inv-loop μ-loop
-loop-holds c =
-    let ended = c .before .before in
-    let counted = ended .before .before .before .before .before in
-    begins (counted .before .before .before .before .before .pre) (counted .put-number .ensures) (ended .put .ensures) refl refl
 
 mul-put-state : tie.Need-mul-put-state Inv-loop μ-loop
 mul-put-state c = omega arith
@@ -50,17 +59,8 @@ add-taken c = omega arith
 loop-less : tie.Need-loop-less Inv-loop μ-loop
 loop-less c = omega arith
 
-loop-again : tie.Need-loop-again Inv-loop μ-loop
-loop-again c = state-written (c .before .before .before .before .before .before .before .loop .inv) (omega arith) (c .before .before .put-state .ensures)
-
 same-length : tie.Need-same-length Inv-loop μ-loop
 same-length c = omega (arith, buffer-long (c .before .loop .inv))
-
-returns : tie.Need-returns Inv-loop μ-loop
-returns c =
-    let ended = c .before .before .before .before in
-    let counted = ended .before .before .before .before .before in
-    section-put (counted .before .before .before .before .before .pre) (counted .put-number .ensures) (ended .put .ensures) refl refl (all-written (c .before .loop .inv) (omega arith))
 
 pub put-section-spec : {M : Type 1} → statement M
 put-section-spec =
