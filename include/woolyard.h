@@ -9,7 +9,7 @@
  * through one pointer lies apart from what the others point to. With length 0 it may be any pointer but a null one.
  * No function keeps a pointer, allocates, or has state of its own, so calls on different memory may run at the same time.
  *
- * Link libwoolyard.a (x86-64 Linux), which `rt staticlib woolyard` writes. */
+ * Link libwoolyard.a (x86-64 Linux), which `rt staticlib woolyard` writes. Of the C library it needs memcpy, and nothing else. */
 #ifndef WOOLYARD_H
 #define WOOLYARD_H
 

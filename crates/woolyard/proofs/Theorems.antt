@@ -34,7 +34,7 @@ use Rattle.readings.specs.Figures.{sheetFigures, lineFigures}
 use Rattle.readings.specs.Replies.{shown}
 use Rattle.readings.proofs.Theorems as replies
 use Rattle.measures.specs.Columns.{Columns}
-use Rattle.writer.specs.Replies.{Left}
+use Rattle.writer.specs.Replies.{Leaving}
 use Rattle.writer.proofs.Theorems as writer
 use Rattle.woolyard.specs.States.{fiveOf, Laid, StateAnswers, BookAnswers}
 use Rattle.woolyard.specs.Sides.{twoOf, SideLaid, SideAnswers, SideBookAnswers}
@@ -184,7 +184,7 @@ module _ (fluids : List Columns) (before : List ℕ) where
   pub write-determined : {number number′ length length′ : ℕ} {after after′ : List ℕ} → WriteAnswers fluids before number length after → WriteAnswers fluids before number′ length′ after′ → (number ≡ number′) × (length ≡ length′) × (after ≡ after′)
   write-determined p q =
       let same = writer.write-determined fluids before _ _ p q in
-      (ap (λ (l : Left). l .figures .number) same, ap (λ (l : Left). l .figures .length) same, ap (λ (l : Left). l .buffer) same)
+      (ap (λ (l : Leaving). l .figures .number) same, ap (λ (l : Leaving). l .figures .length) same, ap (λ (l : Leaving). l .buffer) same)
 
   pub refused-writes-nothing : {number length : ℕ} {after : List ℕ} → WriteAnswers fluids before number length after → (number ≡ 0 → ⊥) → (after ≡ before) × (length ≡ 0)
   refused-writes-nothing = writer.refused-writes-nothing fluids before

@@ -19,29 +19,30 @@ use Rattle.readings.specs.Figures.{sheetAnswered, lineAnswered}
 use Rattle.readings.specs.Readers.{mostBytes}
 use Rattle.readings.specs.Replies.{ReadsAs, LineReadsAs}
 use Rattle.readings.proofs.Answers.{good-told, good-line-told}
+use Rattle.readings.proofs.Full.{fullSheet, full-sheet-is-good, full-sheet-has-66015-bytes, largestSheet, largest-sheet-is-good, largest-sheet-has-65536-bytes}
 use Rattle.measures.specs.declared.reply.WriteReply.{WriteReply}
 use Rattle.measures.specs.declared.reply.WriteReply.the-variants as Reply
 use Rattle.measures.specs.declared.reply.WriteFigures.{WriteFigures}
 use Rattle.measures.specs.Columns.{Columns, listsOf}
 use Rattle.measures.specs.Checks.{writeChecks}
-use Rattle.measures.specs.Replies.{answered, figuresOf, Told}
+use Rattle.measures.specs.Replies.{answered, refusedWith, figuresOf, Told}
 use Rattle.measures.specs.Inside.{Sections}
 use Rattle.measures.proofs.Telling.{makes-sections, each-section, told-length}
 use Rattle.measures.proofs.Theorems.{figures-determine-reply, every-list-is-told}
-use Rattle.writer.specs.Replies.{Left, left, Writes}
+use Rattle.writer.specs.Replies.{Leaving, left, Writes}
 use Rattle.writer.proofs.Telling.{writes-nothing}
 use Rattle.writer.proofs.Back.{fluidsIn, lists-again, fluids-again, never-unfit, never-too-many-digits}
 
-abbrev figuresIn : Left → WriteFigures
+abbrev figuresIn : Leaving → WriteFigures
 figuresIn after = after .figures
 
-abbrev numberIn : Left → ℕ
+abbrev numberIn : Leaving → ℕ
 numberIn after = after .figures .number
 
-abbrev lengthIn : Left → ℕ
+abbrev lengthIn : Leaving → ℕ
 lengthIn after = after .figures .length
 
-abbrev bufferIn : Left → List ℕ
+abbrev bufferIn : Leaving → List ℕ
 bufferIn after = after .buffer
 
 -- all bytes of a buffer from a place on are as they were
@@ -67,7 +68,7 @@ sheetOf fluids = sheet (listsOf fluids)
 
 module _ (fluids : List Columns) (before : List ℕ) where
   -- The number, the length and every byte of the buffer are fixed.
-  pub write-determined : (after other : Left) → Writes fluids before after → Writes fluids before other → after ≡ other
+  pub write-determined : (after other : Leaving) → Writes fluids before after → Writes fluids before other → after ≡ other
   write-determined = tells-once (writeChecks fluids (length before)) (λ refusal after other told told′. told ∙ sym told′) (λ after other told told′. told ∙ sym told′)
 
   pub reply-determined : (reply other : WriteReply) (buffer buffer′ : List ℕ) → Writes fluids before (left (figuresOf reply) buffer) → Writes fluids before (left (figuresOf other) buffer′) → (reply ≡ other) × (buffer ≡ buffer′)
@@ -102,7 +103,7 @@ module _ (fluids : List Columns) (before : List ℕ) where
       let all : length before ≤ length (sheetOf fluids) = omega arith in
       answers (rw just-enough none) (ap (left (answered (sheetOf fluids))) (sym (ap (λ (l : List ℕ). sheetOf fluids ++ l) (drop-of-length-le before all) ∙ append-nil (sheetOf fluids))))
 
-  module _ {after : Left} (writes : Writes fluids before after) where
+  module _ {after : Leaving} (writes : Writes fluids before after) where
     holds-sheet : numberIn after ≡ 0 → NoneOf (writeChecks fluids (length before)) × (after ≡ left (answered (sheetOf fluids)) (sheetOf fluids ++ drop (length (sheetOf fluids)) before))
     holds-sheet is-0 = zero-is-answered numberIn (writeChecks fluids (length before)) refl (λ refusal told. ap numberIn told) is-0 writes
 
@@ -133,7 +134,7 @@ pub record ReadsBack (fluids : List Columns) (bytes : List ℕ) : Type 0 where
   pub count : ReadsAs bytes (sheetAnswered (sumOfCounts (listsOf fluids)))
   pub each-line : (k : ℕ) {state : State} → k < sumOfCounts (listsOf fluids) → getElem? (statesFrom 0 (listsOf fluids)) k ≡ some state → LineReadsAs bytes k (lineAnswered state)
 
-pub written-reads-back : (fluids : List Columns) (before : List ℕ) {after : Left} → length fluids ≡ allSections → Writes fluids before after → numberIn after ≡ 0 → ReadsBack fluids (take (lengthIn after) (bufferIn after))
+pub written-reads-back : (fluids : List Columns) (before : List ℕ) {after : Leaving} → length fluids ≡ allSections → Writes fluids before after → numberIn after ≡ 0 → ReadsBack fluids (take (lengthIn after) (bufferIn after))
 written-reads-back fluids before {after} three writes is-0 = subst (ReadsBack fluids) (sym is-written) reads-back
   where
     held : NoneOf (writeChecks fluids (length before)) × (after ≡ left (answered (sheetOf fluids)) (sheetOf fluids ++ drop (length (sheetOf fluids)) before))
@@ -160,7 +161,7 @@ written-reads-back fluids before {after} three writes is-0 = subst (ReadsBack fl
         }
 
 -- A sheet that is read and written again, where there is room for it, is the same bytes.
-pub read-and-written-again : (bytes before : List ℕ) (lists : List (List Pair)) → Good allSections bytes lists → length bytes ≤ mostBytes → length bytes ≤ length before → {after : Left} → Writes (fluidsIn lists) before after → after ≡ left (answered bytes) (bytes ++ drop (length bytes) before)
+pub read-and-written-again : (bytes before : List ℕ) (lists : List (List Pair)) → Good allSections bytes lists → length bytes ≤ mostBytes → length bytes ≤ length before → {after : Leaving} → Writes (fluidsIn lists) before after → after ≡ left (answered bytes) (bytes ++ drop (length bytes) before)
 read-and-written-again bytes before lists good short room {after} writes =
     none-is-answered (writeChecks (fluidsIn lists) (length before)) none writes ∙ ap (λ (l : List ℕ). left (answered l) (l ++ drop (length l) before)) same
   where
@@ -172,3 +173,15 @@ read-and-written-again bytes before lists good short room {after} writes =
       never-unfit lists (good .writable),
       (never-too-many-digits lists (good .writable), (⊎-elim (λ small. omega (arith, ap length same)) (λ long. omega (arith, ap length same)), tt)),
     )
+
+-- Three full sections can pass the most bytes of a sheet: the longest such lists are refused by 10, whatever the buffer is, and lists whose sheet has exactly as
+-- many bytes as allowed are written.
+pub full-sheet-is-refused-by-10 : (before : List ℕ) → Writes (fluidsIn fullSheet) before (left (refusedWith 10) before)
+full-sheet-is-refused-by-10 before =
+    let each = full-sheet-is-good .writable in
+    let long = ap (λ (lists : List (List Pair)). length (sheet lists)) (lists-again fullSheet) in
+    refuses 10 (inr (never-unfit fullSheet each, inr (never-too-many-digits fullSheet each, inl (inr (omega (arith, long, full-sheet-has-66015-bytes)), refl)))) refl
+
+pub largest-sheet-is-written : (before : List ℕ) → mostBytes ≤ length before → {after : Leaving} → Writes (fluidsIn largestSheet) before after → after ≡ left (answered (sheet largestSheet)) (sheet largestSheet ++ drop (length (sheet largestSheet)) before)
+largest-sheet-is-written before room =
+    read-and-written-again (sheet largestSheet) before largestSheet largest-sheet-is-good (omega (arith, largest-sheet-has-65536-bytes)) (omega (arith, largest-sheet-has-65536-bytes))
