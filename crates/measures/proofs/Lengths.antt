@@ -9,7 +9,7 @@ use Rattle.buffers.proofs.Digits.{fewest-is-length}
 use Rattle.sheets.specs.Grammar.{Writable, decimal, WritablePair, line, stateLines, section}
 use Rattle.sheets.proofs.Numerals.{decimal-is-numeral}
 use Rattle.measures.specs.Columns.{paired}
-use Rattle.measures.specs.Inside.{Width, Section, SectionLength, stateLine}
+use Rattle.measures.specs.Inside.{Width, MakesSection, SectionLength, stateLine}
 use Rattle.measures.proofs.Sections.{leftPairs, count-first, none-left, line-first, next-writable, state-line-long, count-line-long}
 
 -- what `width` keeps: a power of ten, which the number is above but for the last step
@@ -40,13 +40,13 @@ module _ {number width above : ℕ} (grown : Grown number width above) where
 
 -- what the loop keeps: the length so far, and what is left, make the section's
 pub record Measured (millikelvin pascals : List ℕ) (taken so-far : ℕ) : Type 0 where
-  pub lists : Section millikelvin pascals
+  pub lists : MakesSection millikelvin pascals
   pub within : taken ≤ length millikelvin
   pub is-length : so-far + length (stateLines (leftPairs millikelvin pascals taken)) ≡ length (section (paired millikelvin pascals))
   pub short : so-far ≤ 11 + 22 * taken
 
 module _ {millikelvin pascals : List ℕ} where
-  pub count-measured : {width : ℕ} → Section millikelvin pascals → Width (length millikelvin) width → Measured millikelvin pascals 0 (width + 1)
+  pub count-measured : {width : ℕ} → MakesSection millikelvin pascals → Width (length millikelvin) width → Measured millikelvin pascals 0 (width + 1)
   count-measured lists is-width =
       record {
         lists = lists;

@@ -7,7 +7,7 @@ use lib.ListN.{length, getD, drop, length-append, drop-of-length-le}
 use lib.Seq.{drop-cons}
 use Rattle.sheets.specs.Grammar.{lineEnd, space, decimal, Pair, WritablePair, pairText, line, stateLines, section, sheet, EachWritable}
 use Rattle.measures.specs.Columns.{paired}
-use Rattle.measures.specs.Inside.{Section, stateLine}
+use Rattle.measures.specs.Inside.{MakesSection, stateLine}
 
 pub paired-long : (millikelvin pascals : List ℕ) → length pascals ≡ length millikelvin → length (paired millikelvin pascals) ≡ length millikelvin
 paired-long [] pascals equal = refl
@@ -38,7 +38,7 @@ module _ (millikelvin pascals : List ℕ) where
   abbrev pub leftPairs : (taken : ℕ) → List Pair
   leftPairs taken = paired (drop taken millikelvin) (drop taken pascals)
 
-module _ {millikelvin pascals : List ℕ} (lists : Section millikelvin pascals) where
+module _ {millikelvin pascals : List ℕ} (lists : MakesSection millikelvin pascals) where
   -- the count comes before all of them
   pub count-first : line (decimal (length millikelvin)) ++ stateLines (leftPairs millikelvin pascals 0) ≡ section (paired millikelvin pascals)
   unfolding section

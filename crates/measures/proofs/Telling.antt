@@ -17,7 +17,7 @@ use Rattle.measures.specs.Columns.{Columns, paired, listsOf}
 use Rattle.measures.specs.Checks as checks
 use Rattle.measures.specs.Checks.{Some, Unfit, HasTooManyDigits, writeChecks}
 use Rattle.measures.specs.Replies.{figuresOf, Told}
-use Rattle.measures.specs.Inside.{Section, Sections}
+use Rattle.measures.specs.Inside.{MakesSection, EachMakesSection}
 use Rattle.measures.proofs.Sections.{paired-long}
 
 module _ (fluids : List Columns) {room : ℕ} where
@@ -45,7 +45,7 @@ each-writable (temperature ∷ millikelvin) (pressure ∷ pascals) few-first few
     let second : checks.TooManyDigits pressure → ⊥ = λ many. few-second (inl many) in
     (record { temperature = omega arith; pressure = omega arith }, each-writable millikelvin pascals (λ some. few-first (inr some)) (λ some. few-second (inr some)))
 
-makes-section : (millikelvin pascals : List ℕ) → (Unfit (record { millikelvin = millikelvin; pascals = pascals }) → ⊥) → (HasTooManyDigits (record { millikelvin = millikelvin; pascals = pascals }) → ⊥) → Section millikelvin pascals
+makes-section : (millikelvin pascals : List ℕ) → (Unfit (record { millikelvin = millikelvin; pascals = pascals }) → ⊥) → (HasTooManyDigits (record { millikelvin = millikelvin; pascals = pascals }) → ⊥) → MakesSection millikelvin pascals
 makes-section millikelvin pascals fit few =
     let not-many : mostStates < length millikelvin → ⊥ = λ many. fit (inl many) in
     record {
@@ -59,14 +59,14 @@ makes-section millikelvin pascals fit few =
     equal-or-not (no unequal) = absurd (fit (inr (inr unequal)))
 
 -- and those of all fluids
-pub makes-sections : (fluids : List Columns) → (Some Unfit fluids → ⊥) → (Some HasTooManyDigits fluids → ⊥) → Sections fluids
+pub makes-sections : (fluids : List Columns) → (Some Unfit fluids → ⊥) → (Some HasTooManyDigits fluids → ⊥) → EachMakesSection fluids
 makes-sections [] fit few = tt
 makes-sections (columns ∷ fluids) fit few = (
   makes-section (columns .millikelvin) (columns .pascals) (λ unfit. fit (inl unfit)) (λ many. few (inl many)),
   makes-sections fluids (λ some. fit (inr some)) (λ some. few (inr some)),
 )
 
-pub each-section : (fluids : List Columns) → Sections fluids → EachSection (listsOf fluids)
+pub each-section : (fluids : List Columns) → EachMakesSection fluids → EachSection (listsOf fluids)
 each-section [] sections = tt
 each-section (columns ∷ fluids) sections = (
   record {
@@ -80,7 +80,7 @@ each-section (columns ∷ fluids) sections = (
 pub record Passes (fluids : List Columns) (room long : ℕ) : Type 0 where
   pub none : NoneOf (writeChecks fluids room)
   pub is-length : long ≡ length (sheet (listsOf fluids))
-  pub sections : Sections fluids
+  pub sections : EachMakesSection fluids
   pub has-room : length (sheet (listsOf fluids)) ≤ room
 
 abbrev pub numberIn : WriteFigures → ℕ

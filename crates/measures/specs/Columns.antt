@@ -23,9 +23,9 @@ listsOf [] = []
 listsOf (columns ∷ fluids) = pairsOf columns ∷ listsOf fluids
 
 -- hydrogen, then oxygen, then nitrogen
-abbrev pub fluidsOf : (hydrogenMillikelvin hydrogenPascals oxygenMillikelvin oxygenPascals nitrogenMillikelvin nitrogenPascals : List ℕ) → List Columns
-fluidsOf hydrogenMillikelvin hydrogenPascals oxygenMillikelvin oxygenPascals nitrogenMillikelvin nitrogenPascals =
-    record { millikelvin = hydrogenMillikelvin; pascals = hydrogenPascals }
-    ∷ record { millikelvin = oxygenMillikelvin; pascals = oxygenPascals }
-    ∷ record { millikelvin = nitrogenMillikelvin; pascals = nitrogenPascals }
+abbrev pub fluidsOf : (hydrogen-millikelvin hydrogen-pascals oxygen-millikelvin oxygen-pascals nitrogen-millikelvin nitrogen-pascals : List ℕ) → List Columns
+fluidsOf hydrogen-millikelvin hydrogen-pascals oxygen-millikelvin oxygen-pascals nitrogen-millikelvin nitrogen-pascals =
+    record { millikelvin = hydrogen-millikelvin; pascals = hydrogen-pascals }
+    ∷ record { millikelvin = oxygen-millikelvin; pascals = oxygen-pascals }
+    ∷ record { millikelvin = nitrogen-millikelvin; pascals = nitrogen-pascals }
     ∷ []

@@ -18,16 +18,16 @@ pub record Width (number width : ℕ) : Type 0 where
   pub few : width ≤ 10
 
 -- two lists that make a section: as many pressures as temperatures, no more than a section may have, each writable
-pub record Section (millikelvin pascals : List ℕ) : Type 0 where
+pub record MakesSection (millikelvin pascals : List ℕ) : Type 0 where
   pub few : length millikelvin ≤ mostStates
   pub equal : length pascals ≡ length millikelvin
   pub writable : EachWritable (paired millikelvin pascals)
 
-abbrev pub Sections : List Columns → Type 0
-Sections [] = Unit {0}
-Sections (columns ∷ fluids) = Section (columns .millikelvin) (columns .pascals) × Sections fluids
+abbrev pub EachMakesSection : List Columns → Type 0
+EachMakesSection [] = Unit {0}
+EachMakesSection (columns ∷ fluids) = MakesSection (columns .millikelvin) (columns .pascals) × EachMakesSection fluids
 
--- ten digits and an end for the count are more than it takes, and a state line has two numbers, a space and an end
+-- a count line has ten digits and an end at most, and a state line two numbers, a space and an end
 abbrev pub longestSection : ℕ
 longestSection = 11 + 22 * mostStates
 

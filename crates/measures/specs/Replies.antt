@@ -23,9 +23,10 @@ figuresOf ListsUnfit = refusedWith 8
 figuresOf TooManyDigits = refusedWith 9
 figuresOf NoRoom = refusedWith 10
 
--- what is told of the lists alone: a refusal has no length
+-- a refusal has no length
 abbrev pub NumberAndZero : (refusal : ℕ) → WriteFigures → Type 0
 NumberAndZero refusal figures = figures ≡ refusedWith refusal
 
+-- the first check that applies, or how long the sheet is that the grammar writes from the lists
 abbrev pub Told : List Columns → (room : ℕ) → WriteFigures → Type 0
 Told fluids room = Tells (writeChecks fluids room) NumberAndZero (λ figures. figures ≡ answered (sheet (listsOf fluids)))

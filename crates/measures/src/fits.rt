@@ -20,6 +20,7 @@ fn unfit(millikelvin: &[u64], pascals: &[u64]) -> bool
     false
 }
 
+// Whether those of one fluid are.
 pub(crate) fn any_unfit(
     hydrogen_millikelvin: &[u64],
     hydrogen_pascals: &[u64],
@@ -51,6 +52,7 @@ fn over_ten_digits(numbers: &[u64]) -> bool
     false
 }
 
+// Whether one of any list has.
 pub(crate) fn any_over_ten_digits(
     hydrogen_millikelvin: &[u64],
     hydrogen_pascals: &[u64],

@@ -1,6 +1,6 @@
 // How long a section is.
 ghost use Rattle.sheets.specs.Grammar.{Writable};
-ghost use Rattle.measures.specs.Inside.{Width, Section, SectionLength};
+ghost use Rattle.measures.specs.Inside.{Width, MakesSection, SectionLength};
 
 // How many digits a number of at most ten has.
 fn width(number: u64) -> usize
@@ -19,7 +19,7 @@ fn width(number: u64) -> usize
 
 // A count line, and the state lines behind it: every line has its end, and a state line its space.
 pub(crate) fn section_length(millikelvin: &[u64], pascals: &[u64]) -> usize
-    requires { ⌜ Section (now millikelvin) (now pascals) ⌝ }
+    requires { ⌜ MakesSection (now millikelvin) (now pascals) ⌝ }
     ensures { λ r. ⌜ SectionLength (now (millikelvin .entry)) (now (pascals .entry)) r ⌝ }
 {
     let mut length = width(millikelvin.len() as u64) + 1;

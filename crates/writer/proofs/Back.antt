@@ -8,7 +8,7 @@ use lib.ListN.{length}
 use Rattle.sheets.specs.Grammar.{mostStates, Pair, WritablePair, EachWritable, EachSection}
 use Rattle.measures.specs.Columns.{Columns, paired, listsOf}
 use Rattle.measures.specs.Checks.{Some, Unfit, TooManyDigits, HasTooManyDigits}
-use Rattle.measures.specs.Inside.{Sections}
+use Rattle.measures.specs.Inside.{EachMakesSection}
 
 abbrev pub temperaturesIn : List Pair → List ℕ
 temperaturesIn [] = []
@@ -43,7 +43,7 @@ pressures-again [] (pressure ∷ pascals) equal = absurd (omega arith)
 pressures-again (temperature ∷ millikelvin) [] equal = absurd (omega arith)
 pressures-again (temperature ∷ millikelvin) (pressure ∷ pascals) equal = ap (λ (l : List ℕ). pressure ∷ l) (pressures-again millikelvin pascals (omega arith))
 
-pub fluids-again : (fluids : List Columns) → Sections fluids → fluidsIn (listsOf fluids) ≡ fluids
+pub fluids-again : (fluids : List Columns) → EachMakesSection fluids → fluidsIn (listsOf fluids) ≡ fluids
 fluids-again [] sections = refl
 fluids-again (columns ∷ fluids) sections =
     let equal = sections .0 .equal in

@@ -11,7 +11,7 @@ use Rattle.buffers.proofs.Digits.{digits-are-decimal}
 use Rattle.buffers.proofs.Holding.{holds-nothing, after-long, both, put-next}
 use Rattle.sheets.specs.Grammar.{lineEnd, space, digits, decimal, Writable, pairText, line, stateLines, section}
 use Rattle.measures.specs.Columns.{paired}
-use Rattle.measures.specs.Inside.{Section, stateLine}
+use Rattle.measures.specs.Inside.{MakesSection, stateLine}
 use Rattle.writer.specs.Inside.{StateFits, SectionFits}
 use Rattle.measures.proofs.Sections.{leftPairs, count-first, none-left, line-first, next-writable, state-line-long}
 
@@ -56,7 +56,7 @@ module _ {temperature pressure at : ℕ} {before with-temperature with-space wit
 
 -- what the loop keeps: what was put, and the lines that are left, make all the state lines
 pub record Written (millikelvin pascals before : List ℕ) (at taken : ℕ) (buffer : List ℕ) (end : ℕ) : Type 0 where
-  pub lists : Section millikelvin pascals
+  pub lists : MakesSection millikelvin pascals
   pub room : at + length (stateLines (paired millikelvin pascals)) ≤ length before
   pub within : taken ≤ length millikelvin
   pub done : List ℕ

@@ -26,7 +26,7 @@ use Rattle.measures.specs.declared.reply.WriteFigures.{WriteFigures}
 use Rattle.measures.specs.Columns.{Columns, listsOf}
 use Rattle.measures.specs.Checks.{writeChecks}
 use Rattle.measures.specs.Replies.{answered, refusedWith, figuresOf, Told}
-use Rattle.measures.specs.Inside.{Sections}
+use Rattle.measures.specs.Inside.{EachMakesSection}
 use Rattle.measures.proofs.Telling.{makes-sections, each-section, told-length}
 use Rattle.measures.proofs.Theorems.{figures-determine-reply, every-list-is-told}
 use Rattle.writer.specs.Replies.{Leaving, left, Writes}
@@ -143,7 +143,7 @@ written-reads-back fluids before {after} three writes is-0 = subst (ReadsBack fl
     is-written : take (lengthIn after) (bufferIn after) ≡ sheetOf fluids
     is-written = rw (held .1) (take-append-seam (sheetOf fluids) (drop (length (sheetOf fluids)) before))
 
-    sections : Sections fluids
+    sections : EachMakesSection fluids
     sections = makes-sections fluids (held .0 .0) (held .0 .1 .0)
 
     good : Good allSections (sheetOf fluids) (listsOf fluids)

@@ -4,7 +4,7 @@ use Prim.Native.Nat.{ℕ, _+_, _≤_}
 use lib.ListN.{length}
 use Rattle.sheets.specs.Grammar.{WritablePair, section}
 use Rattle.measures.specs.Columns.{paired}
-use Rattle.measures.specs.Inside.{stateLine, Section}
+use Rattle.measures.specs.Inside.{stateLine, MakesSection}
 
 -- a state line that has room, and a section
 pub record StateFits (millikelvin pascals : ℕ) (buffer : List ℕ) (at : ℕ) : Type 0 where
@@ -12,5 +12,5 @@ pub record StateFits (millikelvin pascals : ℕ) (buffer : List ℕ) (at : ℕ) 
   pub room : at + length (stateLine millikelvin pascals) ≤ length buffer
 
 pub record SectionFits (millikelvin pascals buffer : List ℕ) (at : ℕ) : Type 0 where
-  pub lists : Section millikelvin pascals
+  pub lists : MakesSection millikelvin pascals
   pub room : at + length (section (paired millikelvin pascals)) ≤ length buffer

@@ -9,7 +9,7 @@ use lib.ListN.{length}
 use Rattle.sheets.specs.Grammar.{sheet}
 use Rattle.measures.specs.Columns.{Columns, paired, listsOf, fluidsOf}
 use Rattle.measures.specs.Checks.{Some, Unfit, HasTooManyDigits}
-use Rattle.measures.specs.Inside.{Sections}
+use Rattle.measures.specs.Inside.{EachMakesSection}
 use Rattle.measures.proofs.Telling.{tells-unfit, tells-digits, tells-no-room, tells-length, makes-sections}
 use Rattle.measures.proofs.Sections.{three-long}
 use Rattle.measures.proofs.measure.Statement.{statement}
@@ -29,7 +29,7 @@ fit c = rw (c .if1 .left) at (c .before .any-unfit .ensures)
 few : (c : tie.Else2) → Some HasTooManyDigits (lists (c .before .before)) → ⊥
 few c = rw (c .if2 .left) at (c .before .any-over-ten-digits .ensures)
 
-sections : (c : tie.Else2) → Sections (lists (c .before .before))
+sections : (c : tie.Else2) → EachMakesSection (lists (c .before .before))
 sections c = makes-sections (lists (c .before .before)) (fit (c .before .before)) (few c)
 
 -- the places behind the first two tests, from where all is measured
