@@ -93,8 +93,3 @@ both {text} {other} {before} {at = at} fits one two =
           ∙ holding-both text before at fits other;
       reaches = omega (arith, one .reaches, two .reaches, length-append text other);
     }
-
--- one text more, behind what is there
-pub put-next : {done text before between after : List ℕ} {at middle next : ℕ} → Holds done before at between middle → at + (length done + length text) ≤ length before → Puts text between middle after next → Holds (done ++ text) before at after next
-put-next {done} {text} {before} {at = at} holds fits puts =
-    both (omega arith) holds (put-with-room puts (omega (arith, holds .reaches, after-long (omega arith) holds)))

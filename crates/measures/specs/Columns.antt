@@ -1,5 +1,5 @@
 -- Document 02, C-11: what is to be written, "for each fluid a list of temperatures and a list of pressures".
-use mathlib.Core.List.{List, [], _∷_}
+use mathlib.Core.List.{List, [], _∷_, map}
 use Prim.Native.Nat.{ℕ}
 use Rattle.sheets.specs.Grammar.{Pair}
 
@@ -19,8 +19,7 @@ pairsOf columns = paired (columns .millikelvin) (columns .pascals)
 
 -- the lists that the grammar writes from: a section for each fluid
 abbrev pub listsOf : List Columns → List (List Pair)
-listsOf [] = []
-listsOf (columns ∷ fluids) = pairsOf columns ∷ listsOf fluids
+listsOf fluids = map pairsOf fluids
 
 -- hydrogen, then oxygen, then nitrogen
 abbrev pub fluidsOf : (hydrogen-millikelvin hydrogen-pascals oxygen-millikelvin oxygen-pascals nitrogen-millikelvin nitrogen-pascals : List ℕ) → List Columns

@@ -1,9 +1,9 @@
 // A line of output (document 01, "State sheets"): a word and numbers, a single space before each number and
 // byte 10 after the last. It is gathered in one buffer: each private function puts some of it at a place, and
 // answers the place behind it.
-ghost use Prim.Native.Nat.{_+_, _*_, _≤_};
+ghost use Prim.Native.Nat.{_+_, _≤_};
 ghost use lib.ListN.{length};
-ghost use Rattle.buffers.specs.Puts.{mostDigits, Holds};
+ghost use Rattle.buffers.specs.Puts.{Holds};
 ghost use Rattle.texts.specs.Texts.{spaced, numbersText};
 ghost use Rattle.texts.specs.Buffer.{Written, Fitted};
 use buffers::MOST_DIGITS;
@@ -26,7 +26,7 @@ pub struct Text {
 }
 
 fn put_spaced(buffer: &mut [u8], at: usize, number: u64) -> usize
-    requires { ⌜ at + (1 + mostDigits) ≤ length (now buffer) ⌝ }
+    requires { ⌜ at + length (spaced number) ≤ length (now buffer) ⌝ }
     ensures { λ r. ⌜ Holds (spaced number) (now (buffer .entry)) at (now (buffer .exit)) r ⌝ }
 {
     let digits = put(buffer, at, b" ");
@@ -34,7 +34,7 @@ fn put_spaced(buffer: &mut [u8], at: usize, number: u64) -> usize
 }
 
 fn put_numbers(buffer: &mut [u8], at: usize, numbers: &[u64]) -> usize
-    requires { ⌜ at + length (now numbers) * (1 + mostDigits) ≤ length (now buffer) ⌝ }
+    requires { ⌜ at + length (numbersText (now numbers)) ≤ length (now buffer) ⌝ }
     ensures { λ r. ⌜ Holds (numbersText (now (numbers .entry))) (now (buffer .entry)) at (now (buffer .exit)) r ⌝ }
 {
     let mut end = at;

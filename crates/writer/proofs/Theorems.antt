@@ -2,11 +2,11 @@
 -- lists, and a sheet that is read and written again is the same bytes; where refused, and behind the sheet, the buffer is as it was. Assumes nothing.
 use mathlib.Core.Path.{_≡_, refl, sym, ap, subst, _∙_}
 use mathlib.Core.Logic.{_↔_, inl, inr, ⊎-elim}
-use mathlib.Core.List.{List, [], _∷_, _++_, append-nil}
+use mathlib.Core.List.{List, _++_, append-nil}
 use mathlib.Core.Option.{some}
 use Prim.Native.Nat.{ℕ, _+_, _-_, _≤_, _<_}
 use native.Mathlib.Omega.{arith}
-use lib.ListN.{length, getD, take, drop, length-append, length-drop, drop-of-length-le, getElem?}
+use lib.ListN.{length, length-map, getD, take, drop, length-append, length-drop, drop-of-length-le, getElem?}
 use lib.Seq.{take-append-seam, getD-append-add, getD-drop}
 use Rattle.refusals.specs.Checks.{NoneOf, refuses, answers}
 use Rattle.refusals.proofs.Theorems.{tells-once, none-is-answered, not-answered-is-refused, zero-is-answered}
@@ -23,7 +23,7 @@ use Rattle.readings.proofs.Full.{fullSheet, full-sheet-is-good, full-sheet-has-
 use Rattle.measures.specs.declared.reply.WriteReply.{WriteReply}
 use Rattle.measures.specs.declared.reply.WriteReply.the-variants as Reply
 use Rattle.measures.specs.declared.reply.WriteFigures.{WriteFigures}
-use Rattle.measures.specs.Columns.{Columns, listsOf}
+use Rattle.measures.specs.Columns.{Columns, pairsOf, listsOf}
 use Rattle.measures.specs.Checks.{writeChecks}
 use Rattle.measures.specs.Replies.{answered, refusedWith, figuresOf, Told}
 use Rattle.measures.specs.Inside.{EachMakesSection}
@@ -58,10 +58,6 @@ behind-text text before room =
           let on : length text + (k - length text) ≡ k = omega arith in
           rw (← on) (getD-append-add text (drop (length text) before) (k - length text) 0 ∙ getD-drop (length text) before (k - length text) 0);
     }
-
-lists-long : (fluids : List Columns) → length (listsOf fluids) ≡ length fluids
-lists-long [] = refl
-lists-long (columns ∷ fluids) = omega (arith, lists-long fluids)
 
 abbrev sheetOf : List Columns → List ℕ
 sheetOf fluids = sheet (listsOf fluids)
@@ -147,7 +143,7 @@ written-reads-back fluids before {after} three writes is-0 = subst (ReadsBack fl
     sections = makes-sections fluids (held .0 .0) (held .0 .1 .0)
 
     good : Good allSections (sheetOf fluids) (listsOf fluids)
-    good = record { has-sections = lists-long fluids ∙ three; writable = each-section fluids sections; written = refl }
+    good = record { has-sections = length-map fluids pairsOf ∙ three; writable = each-section fluids sections; written = refl }
 
     reads-back : ReadsBack fluids (sheetOf fluids)
     reads-back =

@@ -1,9 +1,10 @@
--- `texts::put_numbers` meets its contract. The loop's invariant is `SoFar`: what was put, and the numbers that are left, make all of them. The measure is how
+-- `texts::put_numbers` meets its contract. The loop's invariant is `SoFar`: the numbers that are left are what is left to put. The measure is how
 -- many are left. Assumes nothing.
 use mathlib.Core.Path.{refl}
 use Prim.Native.Nat.{_-_}
 use native.Mathlib.Omega.{arith}
-use Rattle.texts.proofs.Numbers.{SoFar, none-taken, between-long, one-fits, one-more-taken, all-taken}
+use Rattle.buffers.proofs.Underway.{buffer-long}
+use Rattle.texts.proofs.Numbers.{SoFar, none-taken, one-fits, one-more-taken, all-taken}
 use Rattle.texts.proofs.put_numbers.Statement.{statement}
 use Rattle.texts.proofs.put_numbers.Tie as tie
 
@@ -38,7 +39,7 @@ loop-less : tie.Need-loop-less Inv-loop μ-loop
 loop-less c = omega arith
 
 same-length : tie.Need-same-length Inv-loop μ-loop
-same-length c = omega (arith, between-long (c .before .loop .inv))
+same-length c = omega (arith, buffer-long (c .before .loop .inv .underway))
 
 pub put-numbers-spec : {M : Type 1} → statement M
 put-numbers-spec =

@@ -40,20 +40,20 @@ enum-known-measured c = search needs
 put-section-requires : tie.Need-put-section-requires
 put-section-requires c κs =
     let told = c .before in
-    record { lists = passes told .sections .0; room = first-room (hydrogen told) (oxygen told) (nitrogen told) (passes told .has-room) }
+    record { lists = passes told .sections .0; room = first-room (hydrogen told) (oxygen told) (nitrogen told) (begin told .args .buffer .now) (passes told .has-room) }
 
 put-section-requires-2 : tie.Need-put-section-requires-2
 put-section-requires-2 c κs =
     let first = c .before .before .before in
     let told = first .before .before in
-    record { lists = passes told .sections .1 .0; room = second-room (hydrogen told) (oxygen told) (nitrogen told) (passes told .has-room) (first .put-section .ensures) }
+    record { lists = passes told .sections .1 .0; room = second-room (hydrogen told) (oxygen told) (nitrogen told) (begin told .args .buffer .now) (passes told .has-room) (first .put-section .ensures) }
 
 put-section-requires-3 : tie.Need-put-section-requires-3
 put-section-requires-3 c κs =
     let second = c .before .before .before in
     let first = second .before .before .before .before in
     let told = first .before .before in
-    record { lists = passes told .sections .1 .1 .0; room = third-room (hydrogen told) (oxygen told) (nitrogen told) (passes told .has-room) (first .put-section .ensures) (second .put-section2 .ensures) }
+    record { lists = passes told .sections .1 .1 .0; room = third-room (hydrogen told) (oxygen told) (nitrogen told) (begin told .args .buffer .now) (passes told .has-room) (first .put-section .ensures) (second .put-section2 .ensures) }
 
 enum-told : tie.Need-enum-told
 enum-told c = search needs
@@ -74,7 +74,7 @@ returns c =
     let first = second .before .before .before .before in
     let told = first .before .before in
     writes-sheet (asked (begin told)) (passes told)
-    (all-put (hydrogen told) (oxygen told) (nitrogen told) (passes told .has-room) (first .put-section .ensures) (second .put-section2 .ensures) (third .put-section3 .ensures))
+    (all-put (hydrogen told) (oxygen told) (nitrogen told) (begin told .args .buffer .now) (passes told .has-room) (first .put-section .ensures) (second .put-section2 .ensures) (third .put-section3 .ensures))
 
 returns-2 : tie.Need-returns-2
 returns-2 c = writes-nothing (asked (c .before .before .before .before .before .before .before .before .before .before)) (λ same. omega arith) (rw (c .enum-told .given .1) at (c .before .before .measure .ensures))

@@ -1,10 +1,11 @@
--- `writer::putting::put_section` meets its contract. The loop's invariant is `Written`: what was put, and the lines that are left, make all state lines. The
+-- `writer::putting::put_section` meets its contract. The loop's invariant is `Written`: the lines of the states that are left are what is left to put. The
 -- measure is how many these are. Assumes nothing.
 use mathlib.Core.Path.{refl}
 use Prim.Native.Nat.{_-_}
 use native.Mathlib.Omega.{arith}
 use borrow.Author.Needs.{needs}
-use Rattle.writer.proofs.Lines.{Written, buffer-long, state-fits, state-written, all-written, begins, section-put}
+use Rattle.buffers.proofs.Underway.{buffer-long}
+use Rattle.writer.proofs.Lines.{Written, state-fits, state-written, all-written, begins, section-put}
 use Rattle.writer.proofs.putting.put_section.Statement.{statement}
 use Rattle.writer.proofs.putting.put_section.Tie as tie
 
@@ -60,7 +61,7 @@ loop-less : tie.Need-loop-less Inv-loop μ-loop
 loop-less c = omega arith
 
 same-length : tie.Need-same-length Inv-loop μ-loop
-same-length c = omega (arith, buffer-long (c .before .loop .inv))
+same-length c = omega (arith, buffer-long (c .before .loop .inv .underway))
 
 pub put-section-spec : {M : Type 1} → statement M
 put-section-spec =
