@@ -37,6 +37,7 @@ extern "C" {
 #define WOOLYARD_ROOT_DIFFERS 14          /* the root that is claimed is not the side's */
 #define WOOLYARD_DENSITY_OUT_OF_RANGE 15  /* reduced density below 100 or above 3000 thousandths */
 #define WOOLYARD_NO_SUCH_LINE 16          /* no state line of the number asked for */
+#define WOOLYARD_PART_USED_UP 16          /* no state line ended in what was left of the part */
 #define WOOLYARD_TEMPERATURE_TOO_LOW 21   /* below 14,000 mK for parahydrogen, 56,000 mK for oxygen, 64,000 mK for nitrogen */
 #define WOOLYARD_TEMPERATURE_TOO_HIGH 22  /* above 1,000,000 mK for every fluid */
 #define WOOLYARD_PRESSURE_TOO_LOW 31      /* below 10,000 Pa for every fluid */
@@ -83,10 +84,19 @@ extern "C" {
 #define WOOLYARD_SCALING_MOST 1500
 #define WOOLYARD_SCALING_NONE 1000
 
-/* How many bytes a book has, how many a sheet may have, and how many states one of its sections. */
+/* Where the figures of a state line that has ended lie. Behind the reply's number come its five figures, as those of a state do. */
+#define WOOLYARD_LINE_FLUID 0
+#define WOOLYARD_LINE_MILLIKELVIN 1
+#define WOOLYARD_LINE_PASCALS 2
+#define WOOLYARD_LINE_NUMBER 3   /* of the reply to the state: 0, 21, 22, 31 or 32 */
+#define WOOLYARD_LINE_FIGURES 4  /* the first of the five */
+
+/* How many bytes a book has, how many a sheet may have, how many states one of its sections, and how many numbers are kept of a sheet
+ * between two of its parts. */
 #define WOOLYARD_BOOK_BYTES 192
 #define WOOLYARD_SHEET_MOST_BYTES 65536
 #define WOOLYARD_SECTION_MOST_STATES 1000
+#define WOOLYARD_PARTS 8
 
 /* The reply to a state: its five figures, which are zeros where it is refused.
  * Answers 0, 1, 21, 22, 31 or 32; the first refusal in this order that applies is given. */
@@ -165,6 +175,26 @@ uint64_t woolyard_sheet(const uint8_t *sheet, size_t length, uint64_t reading[3]
  * in range or not; zeros where refused. Answers 0, 6, 7 or 16: 7 comes before 6, and 6 before 16, which is given exactly when the sheet is
  * good and k is not below the number of state lines. */
 uint64_t woolyard_sheet_line(const uint8_t *sheet, size_t length, uint64_t k, uint64_t state[3]);
+
+/* Reads a sheet that arrives in parts, any bytes in any pieces, some perhaps empty, and answers each state as its line ends. All that is kept
+ * between two calls are the numbers of `parts`: zeros before the first byte, and then what the last call left. They may be copied, kept as long
+ * as one likes and gone on from, also from a copy; and they may hold any numbers at all, the library never relies on them. Of the part no byte is
+ * kept or written. However a sheet is cut, the answers are the same, and so is what woolyard_parts_end says behind its last byte, which for at
+ * most 65,536 bytes is what woolyard_sheet says of the whole.
+ * Answers 0 where a state line ended: the caller goes on with the rest of the part, from part[*taken] on. Otherwise the part is used up, and
+ * *taken is its length: 16 where no fault was met so far, 6 or 7 where one was, in this part or before. A line is held until it ends, and a bad one
+ * is met there; but one of more than 21 bytes at its 22nd, and a byte behind the last line that is wanted at once. 7 is met at byte 65,537,
+ * unless 6 was met before it. Behind a fault no byte changes anything, and what was answered before it stands.
+ *   *taken  how many bytes of the part were taken: for 0 up to the end of the state line, with its byte 10
+ *   answer  0: the line's fluid, temperature and pressure as written, then the number and the five figures that woolyard_state answers
+ *           for them; otherwise zeros */
+uint64_t woolyard_parts_take(uint64_t parts[WOOLYARD_PARTS], const uint8_t *part, size_t length, uint64_t *taken, uint64_t answer[9]);
+
+/* What would be said of the sheet if it were over here: 0, 6 or 7. A line that is missing or lacks its end is 6 here, and no fault before.
+ * Nothing is changed: the caller may go on.
+ *   reading[0]  the number of state lines; 0 where refused
+ *   reading[1]  6: the place, as woolyard_sheet has it; otherwise 0 */
+uint64_t woolyard_parts_end(const uint64_t parts[WOOLYARD_PARTS], uint64_t reading[2]);
 
 /* Writes a sheet: for each fluid a list of temperatures in millikelvin and a list of pressures in pascals, of which state k, counted from 0,
  * has number k of both. The sheet is written to the first bytes of the buffer, section by section with its count, and the bytes behind it stay

@@ -2,7 +2,7 @@
 ghost use mathlib.Core.Path.{_≡_};
 ghost use Prim.Native.Nat.{_-_};
 ghost use Rattle.sheets.specs.Grammar.{allSections};
-ghost use Rattle.sheets.specs.Lines.{counted, stated, ended, unended, met};
+ghost use Rattle.sheets.specs.Lines.{counted, stated, ended, wantsLine, unended, met};
 use digests::scan;
 use sheets::Cursor;
 use sheets::Digest;
@@ -73,7 +73,8 @@ fn state_line(cursor: Cursor, next: usize, millikelvin: u64, pascals: u64) -> Li
     })
 }
 
-fn ended_line(cursor: Cursor, next: usize, digest: Digest) -> Line
+// A line that has its end, by its digest. The next line begins where `next` says.
+pub fn ended_line(cursor: Cursor, next: usize, digest: Digest) -> Line
     ensures { λ r. ⌜ r ≡ ended allSections cursor next digest ⌝ }
 {
     let place = cursor.place;
@@ -86,20 +87,31 @@ fn ended_line(cursor: Cursor, next: usize, digest: Digest) -> Line
     }
 }
 
+// Whether a line is wanted where the cursor stands: a state line of the section begun last, or the count of
+// one more.
+pub fn wants_line(cursor: Cursor) -> bool
+    ensures { λ r. ⌜ r ≡ wantsLine allSections cursor ⌝ }
+{
+    let begun = cursor.begun;
+    let left = cursor.left;
+    if left != 0 {
+        return true;
+    }
+    if begun < SECTIONS {
+        return true;
+    }
+    false
+}
+
 // Where there is no line's end any more, the sheet is over or a line lacks its end, or is missing.
 fn unended_line(cursor: Cursor, end: usize) -> Line
     ensures { λ r. ⌜ r ≡ unended allSections cursor end ⌝ }
 {
-    let begun = cursor.begun;
-    let left = cursor.left;
     let place = cursor.place;
     if place < end {
         return Line::Told(Next::Malformed { place });
     }
-    if left != 0 {
-        return Line::Told(Next::Malformed { place });
-    }
-    if begun < SECTIONS {
+    if wants_line(cursor) {
         return Line::Told(Next::Malformed { place });
     }
     Line::Told(Next::Over)

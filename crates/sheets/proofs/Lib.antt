@@ -4,6 +4,7 @@ pub mod Texts
 pub mod Numerals
 pub mod Scans
 pub mod Splits
+pub mod Longest
 pub mod Meets
 pub mod Walks
 pub mod Existence

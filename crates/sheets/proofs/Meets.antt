@@ -23,7 +23,7 @@ use Rattle.sheets.specs.Reading.{Begins, CountLine, StateLine, IsOver, I
 use Rattle.sheets.specs.Digests.{takes, wholeLine, scans}
 use Rattle.sheets.specs.Lines.{faulty, counted, stated, ended, unended, behindScan, met}
 use Rattle.sheets.proofs.Texts.{Spells, SpellsPair, Means, pair-means, digest-means, first-read, pair-read}
-use Rattle.sheets.proofs.Splits.{Endless, endless-decimal, endless-pair, line-of, whole-line, Ended, Unended, split}
+use Rattle.sheets.proofs.Splits.{Endless, endless-decimal, endless-pair, line-of, whole-line, Ended, Unended, split, unended-whole}
 
 module _ (sections : ℕ) (bytes : List ℕ) (cursor : Cursor) where
   -- what is met is told by the scan from the cursor on: whether its line has its end
@@ -31,7 +31,7 @@ module _ (sections : ℕ) (bytes : List ℕ) (cursor : Cursor) where
   scan-met line has-end is-scan test =
       sym (ap (λ (t : Bool). cond t (ended sections cursor (line .next) (line .digest)) (unended sections cursor (line .end))) test) ∙ ap (behindScan sections cursor) is-scan
 
-  met-line : (text : List ℕ) → Begins bytes cursor text → Endless text → met sections bytes cursor ≡ ended sections cursor (cursor .place + suc (length text)) (foldl takes Empty text)
+  pub met-line : (text : List ℕ) → Begins bytes cursor text → Endless text → met sections bytes cursor ≡ ended sections cursor (cursor .place + suc (length text)) (foldl takes Empty text)
   met-line text begins endless =
       sym
       (scan-met (record { digest = foldl takes Empty text; end = cursor .place + length text; next = cursor .place + suc (length text) }) true
@@ -49,6 +49,10 @@ module _ (sections : ℕ) (bytes : List ℕ) (cursor : Cursor) where
     where
       rest : List ℕ
       rest = drop (cursor .place) bytes
+
+  pub met-rest : (text : List ℕ) → drop (cursor .place) bytes ≡ text → Endless text → met sections bytes cursor ≡ unended sections cursor (cursor .place + length text)
+  met-rest text all endless =
+      met-unended (subst (λ (l : List ℕ). Unended l (lineOf l) (wholeLine l)) (sym all) (unended-whole text endless)) ∙ ap (λ (l : List ℕ). unended sections cursor (cursor .place + length l)) all
 
   pub count-met : (after : Cursor) → CountLine sections bytes cursor after → met sections bytes cursor ≡ Count after
   count-met after line =
@@ -162,25 +166,22 @@ module _ (sections : ℕ) (bytes : List ℕ) (cursor : Cursor) where
       end : ℕ
       end = cursor .place + length (drop (cursor .place) bytes)
 
-      wanted : Line
-      wanted = cond (ltb (cursor .begun) sections) (faulty (cursor .place)) (Told Next.Over)
-
-      left : Line
-      left = cond (eqb (cursor .left) 0) wanted (faulty (cursor .place))
-
-      wanted-or-not : (t : Bool) → ltb (cursor .begun) sections ≡ t → drop (cursor .place) bytes ≡ [] → cursor .left ≡ 0 → met sections bytes cursor ≡ cond t (faulty (cursor .place)) (Told Next.Over) → Stands (cond t (faulty (cursor .place)) (Told Next.Over))
-      wanted-or-not true e nothing none same = fault same
-      wanted-or-not false e nothing none same = record { none-left = none; none-wanted = ltb-false (cursor .begun) sections e; nothing-follows = nothing }
-
-      left-or-not : (t : Bool) → eqb (cursor .left) 0 ≡ t → drop (cursor .place) bytes ≡ [] → met sections bytes cursor ≡ cond t wanted (faulty (cursor .place)) → Stands (cond t wanted (faulty (cursor .place)))
-      left-or-not true e nothing same = wanted-or-not (ltb (cursor .begun) sections) refl nothing (eqb-true (cursor .left) 0 e) same
-      left-or-not false e nothing same = fault same
-
       empty : (l : List ℕ) → length l ≡ 0 → l ≡ []
       empty [] none = refl
       empty (byte ∷ l) none = absurd (suc-ne-zero (length l) none)
 
-      more-or-not : (t : Bool) → ltb (cursor .place) end ≡ t → met sections bytes cursor ≡ cond t (faulty (cursor .place)) left → Stands (cond t (faulty (cursor .place)) left)
+      begun-or-not : (t : Bool) → ltb (cursor .begun) sections ≡ t → drop (cursor .place) bytes ≡ [] → cursor .left ≡ 0 → met sections bytes cursor ≡ cond t (faulty (cursor .place)) (Told Next.Over) → Stands (cond t (faulty (cursor .place)) (Told Next.Over))
+      begun-or-not true e nothing none same = fault same
+      begun-or-not false e nothing none same = record { none-left = none; none-wanted = ltb-false (cursor .begun) sections e; nothing-follows = nothing }
+
+      wanted : Bool → Line
+      wanted t = cond (cond t (ltb (cursor .begun) sections) true) (faulty (cursor .place)) (Told Next.Over)
+
+      left-or-not : (t : Bool) → eqb (cursor .left) 0 ≡ t → drop (cursor .place) bytes ≡ [] → met sections bytes cursor ≡ wanted t → Stands (wanted t)
+      left-or-not true e nothing same = begun-or-not (ltb (cursor .begun) sections) refl nothing (eqb-true (cursor .left) 0 e) same
+      left-or-not false e nothing same = fault same
+
+      more-or-not : (t : Bool) → ltb (cursor .place) end ≡ t → met sections bytes cursor ≡ cond t (faulty (cursor .place)) (wanted (eqb (cursor .left) 0)) → Stands (cond t (faulty (cursor .place)) (wanted (eqb (cursor .left) 0)))
       more-or-not true e same = fault same
       more-or-not false e same =
           let none-more : end ≤ cursor .place = ltb-false (cursor .place) end e in

@@ -20,7 +20,7 @@ abbrev pub Endless : List ℕ → Type 0
 Endless [] = Unit {0}
 Endless (byte ∷ bytes) = (byte ≡ lineEnd → ⊥) × Endless bytes
 
-endless-append : (text more : List ℕ) → Endless text → Endless more → Endless (text ++ more)
+pub endless-append : (text more : List ℕ) → Endless text → Endless more → Endless (text ++ more)
 endless-append [] more first second = second
 endless-append (byte ∷ text) more first second = (first .0, endless-append text more (first .1) second)
 
@@ -74,6 +74,13 @@ split (byte ∷ bytes) = end-or-not (eqb byte lineEnd) refl (split bytes)
     end-or-not false e (inl later) =
         inl (record { rest = later .rest; splits = ap (λ (l : List ℕ). byte ∷ l) (later .splits); endless = (eqb-false byte lineEnd e, later .endless) })
     end-or-not false e (inr later) = inr (record { all = ap (λ (l : List ℕ). byte ∷ l) (later .all); is-whole = ap suc (later .is-whole) })
+
+-- bytes with no line's end are one line, whole
+pub unended-whole : (bytes : List ℕ) → Endless bytes → Unended bytes (lineOf bytes) (wholeLine bytes)
+unended-whole [] endless = record { all = refl; is-whole = refl }
+unended-whole (byte ∷ bytes) endless =
+    let later = unended-whole bytes (endless .1) in
+    rw (ne-eqb byte lineEnd (endless .0)) (record { all = ap (λ (l : List ℕ). byte ∷ l) (later .all); is-whole = ap suc (later .is-whole) })
 
 -- a line is the first part of the bytes that it is the line of
 pub take-line : (bytes : List ℕ) → take (length (lineOf bytes)) bytes ≡ lineOf bytes

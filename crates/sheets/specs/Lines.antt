@@ -1,5 +1,5 @@
 -- What is met where a cursor stands: the steps of the crate `lines`. Which line may stand there is not said by this file.
-use mathlib.Core.Bool.{cond}
+use mathlib.Core.Bool.{Bool, true, cond}
 use mathlib.Core.List.{List}
 use Prim.Native.Nat.{ℕ, suc, _-_}
 use lib.Dec.{ltb, leb, eqb}
@@ -45,11 +45,12 @@ module _ (sections : ℕ) where
   ended cursor next (Second first second) = stated cursor next first second
   ended cursor next Bad = faulty (cursor .place)
 
+  -- a state line of the section begun last, or the count of one more
+  abbrev pub wantsLine : Cursor → Bool
+  wantsLine cursor = cond (eqb (cursor .left) 0) (ltb (cursor .begun) sections) true
+
   abbrev pub unended : Cursor → (end : ℕ) → Line
-  unended cursor end =
-      cond (ltb (cursor .place) end)
-      (faulty (cursor .place))
-      (cond (eqb (cursor .left) 0) (cond (ltb (cursor .begun) sections) (faulty (cursor .place)) (Told Next.Over)) (faulty (cursor .place)))
+  unended cursor end = cond (ltb (cursor .place) end) (faulty (cursor .place)) (cond (wantsLine cursor) (faulty (cursor .place)) (Told Next.Over))
 
   abbrev pub behindScan : Cursor → Scanned → Line
   behindScan cursor line = cond (ltb (line .end) (line .next)) (ended cursor (line .next) (line .digest)) (unended cursor (line .end))

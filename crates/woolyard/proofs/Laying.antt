@@ -1,6 +1,6 @@
 -- What a library tells of its reply, laid before the caller, keeps the boundary's promise. Assumes nothing.
-use mathlib.Core.Path.{_≡_, refl, ap}
-use mathlib.Core.List.{List}
+use mathlib.Core.Path.{_≡_, refl, ap, _∙_}
+use mathlib.Core.List.{List, _∷_}
 use Prim.Native.Nat.{ℕ}
 use lib.Ieee.{Float}
 use lib.ListN.{length}
@@ -19,11 +19,19 @@ use Rattle.readings.specs.declared.SheetFigures.{SheetFigures}
 use Rattle.readings.specs.declared.LineFigures.{LineFigures}
 use Rattle.readings.specs.Figures.{sheetFigures, lineFigures}
 use Rattle.readings.specs.Replies.{ReadsAs, LineReadsAs, shown, ShowsBack}
+use Rattle.state.specs.Replies.{Replies}
+use Rattle.sheets.specs.declared.State.{State}
+use Rattle.parts.specs.declared.Reader.{Reader}
+use Rattle.parts.specs.declared.Brought.{Brought}
+use Rattle.parts.specs.declared.Brought.the-variants as Brought
+use Rattle.parts.specs.Takes.{over}
+use Rattle.kept.specs.Numbers.{readerOf}
 use Rattle.readings.proofs.Theorems.{figures-determined}
 use Rattle.woolyard.specs.States.{fiveOf, Laid}
 use Rattle.woolyard.specs.Sides.{twoOf, SideLaid}
 use Rattle.woolyard.specs.Heats.{bitsAfter, HeatAnswers}
 use Rattle.woolyard.specs.Sheets.{readingOf, SheetAnswers, stateOf, LineAnswers}
+use Rattle.woolyard.specs.Parts.{AnswersBrought, twoFiguresOf, EndAnswers}
 
 pub figures-laid : (reply : Reply) (told : Figures) → told ≡ figuresOf reply → Laid reply (told .number) (fiveOf told)
 figures-laid reply told is = record { is-number = ap (λ (f : Figures). f .number) is; is-figures = ap fiveOf is }
@@ -53,3 +61,13 @@ reading-laid bytes reply told line-length reads-as is is-length =
 pub line-of-reading : (bytes : List ℕ) (sheet part : ℕ) (line : List ℕ) (reply : Reading) → ReadsAs bytes (sheetFigures reply) → ShowsBack bytes sheet part line → length line ≡ length (shown bytes (sheetFigures reply))
 line-of-reading bytes sheet part line reply reads-as shows =
     rw (shows .is-line) (ap (λ (f : SheetFigures). length (shown bytes f)) (figures-determined bytes (shows .figures) (sheetFigures reply) (shows .reads-as) reads-as))
+
+pub brought-laid : {brought : Brought} (state : State) (reply : Reply) (told : Figures) {answer : List ℕ} → brought ≡ Brought.State state → Replies (state .fluid) (state .millikelvin) (state .pascals) (figuresOf reply) → told ≡ figuresOf reply → answer ≡ state .fluid ∷ state .millikelvin ∷ state .pascals ∷ told .number ∷ fiveOf told → AnswersBrought brought answer
+brought-laid state reply told is-brought replies is is-answer =
+    rw is-brought
+    (record { number = told .number; figures = fiveOf told; answers = record { reply = reply; replies = replies; laid = figures-laid reply told is }; is-answer = is-answer })
+
+pub end-laid : {parts reading : List ℕ} {number : ℕ} {reader : Reader} {said : Reading} (told : SheetFigures) → reader ≡ readerOf parts → said ≡ over reader → told ≡ sheetFigures said → number ≡ told .number → reading ≡ twoFiguresOf told → EndAnswers parts number reading
+end-laid {parts} told is-reader is-said is is-number is-reading =
+    let same = is ∙ ap sheetFigures (is-said ∙ ap over is-reader) in
+    record { is-number = is-number ∙ ap (λ (f : SheetFigures). f .number) same; is-reading = is-reading ∙ ap twoFiguresOf same }

@@ -48,7 +48,7 @@ use Rattle.woolyard.specs.Sheets.{readingOf, SheetAnswers, stateOf, Line
 use Rattle.woolyard.specs.Writes.{WriteAnswers}
 
 -- One law for all calls: what two replies that are equal tell is equal.
-told-alike : {Told Laid : Type 0} (number-of : Told → ℕ) (laid-of : Told → Laid) {reply other : Told} {number number′ : ℕ} {laid laid′ : Laid} → reply ≡ other → number ≡ number-of reply → number′ ≡ number-of other → laid ≡ laid-of reply → laid′ ≡ laid-of other → (number ≡ number′) × (laid ≡ laid′)
+pub told-alike : {Told Laid : Type 0} (number-of : Told → ℕ) (laid-of : Told → Laid) {reply other : Told} {number number′ : ℕ} {laid laid′ : Laid} → reply ≡ other → number ≡ number-of reply → number′ ≡ number-of other → laid ≡ laid-of reply → laid′ ≡ laid-of other → (number ≡ number′) × (laid ≡ laid′)
 told-alike number-of laid-of same is-number is-number′ is-laid is-laid′ =
     (is-number ∙ ap number-of same ∙ sym is-number′, is-laid ∙ ap laid-of same ∙ sym is-laid′)
 

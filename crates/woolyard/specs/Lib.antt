@@ -8,4 +8,5 @@ pub mod Heats
 pub mod HeatTables
 pub mod Viscosities
 pub mod Sheets
+pub mod Parts
 pub mod Writes

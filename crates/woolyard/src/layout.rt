@@ -5,6 +5,8 @@ ghost use Rattle.readings.specs.Figures.{sheetFigures};
 ghost use Rattle.readings.specs.Replies.{ReadsAs, shown};
 ghost use Rattle.woolyard.specs.States.{Laid};
 ghost use Rattle.woolyard.specs.Sides.{SideLaid};
+ghost use Rattle.woolyard.specs.Parts.{AnswersBrought};
+use parts::Brought;
 use readings::Reading;
 use state::Reply;
 use state::SideReply;
@@ -42,5 +44,31 @@ pub(crate) fn faulty_line_length(sheet: &[u8], reading: Reading) -> usize
         Reading::StateLines(_) => 0,
         Reading::Malformed { place: _ } => reader::faulty_line(sheet).len(),
         Reading::TooLong => 0,
+    }
+}
+
+// The state line that ended, and the reply to its state. Where none did, zeros.
+pub(crate) fn lay_line(brought: Brought, answer: &mut [u64; 9])
+    ensures { λ r. ⌜ AnswersBrought brought (now (answer .exit)) ⌝ }
+{
+    match brought {
+        Brought::State(line) => {
+            let reply = state::ask(line.fluid, line.millikelvin, line.pascals);
+            let told = reply.figures();
+            *answer = [
+                line.fluid,
+                line.millikelvin,
+                line.pascals,
+                told.number,
+                told.kind,
+                told.gas_root,
+                told.dense_root,
+                told.gas_density,
+                told.dense_density,
+            ];
+        }
+        Brought::Nothing => {
+            *answer = [0; 9];
+        }
     }
 }

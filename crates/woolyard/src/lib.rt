@@ -13,10 +13,12 @@ ghost use Rattle.woolyard.specs.Heats.{HeatAnswers};
 ghost use Rattle.woolyard.specs.HeatTables.{HeatTableAnswers};
 ghost use Rattle.woolyard.specs.Viscosities.{ViscosityAnswers};
 ghost use Rattle.woolyard.specs.Sheets.{SheetAnswers, LineAnswers};
+ghost use Rattle.woolyard.specs.Parts.{TakeAnswers, EndAnswers};
 ghost use Rattle.measures.specs.Columns.{fluidsOf};
 ghost use Rattle.woolyard.specs.Writes.{WriteAnswers};
 use crate::layout::faulty_line_length;
 use crate::layout::lay_figures;
+use crate::layout::lay_line;
 use crate::layout::lay_side;
 use heat::HeatCapacity;
 
@@ -196,6 +198,39 @@ pub extern "C" fn woolyard_sheet_line(sheet: &[u8], k: u64, state: &mut [u64; 3]
     let reply = reader::state_line(sheet, k);
     let told = reply.figures();
     *state = [told.fluid, told.millikelvin, told.pascals];
+    told.number
+}
+
+// A part of a sheet, up to the end of a state line or to its own: the first array gets what is kept of the sheet,
+// the second the line and the reply to its state, and the caller's place how many bytes were taken.
+#[no_mangle]
+pub extern "C" fn woolyard_parts_take(
+    parts: &mut [u64; 8],
+    part: &[u8],
+    taken: &mut u64,
+    answer: &mut [u64; 9],
+) -> u64
+    ensures { λ r. ⌜ TakeAnswers (now (parts .entry)) (now (part .entry)) r (now (parts .exit)) (now (taken .exit)) (now (answer .exit)) ⌝ }
+{
+    let before = kept::reader(parts);
+    let reply = parts::take(before, part);
+    let brought = reply.brought;
+    let after = reply.reader;
+    lay_line(brought, answer);
+    *parts = kept::numbers(after);
+    *taken = reply.taken as u64;
+    reply.number()
+}
+
+// What is to be said of that sheet if it is over here: the array gets the number of its state lines, or the place of
+// its fault.
+#[no_mangle]
+pub extern "C" fn woolyard_parts_end(parts: &[u64; 8], reading: &mut [u64; 2]) -> u64
+    ensures { λ r. ⌜ EndAnswers (now (parts .entry)) r (now (reading .exit)) ⌝ }
+{
+    let reader = kept::reader(parts);
+    let told = parts::end(reader).figures();
+    *reading = [told.state_lines, told.place as u64];
     told.number
 }
 
