@@ -216,10 +216,11 @@ pub extern "C" fn woolyard_parts_take(
     let reply = parts::take(before, part);
     let brought = reply.brought;
     let after = reply.reader;
-    lay_line(brought, answer);
+    let number = reply.number();
     *parts = kept::numbers(after);
     *taken = reply.taken as u64;
-    reply.number()
+    lay_line(brought, answer);
+    number
 }
 
 // What is to be said of that sheet if it is over here: the array gets the number of its state lines, or the place of

@@ -21,18 +21,18 @@ number-requires c κs = search needs
 
 returns : tie.Need-returns
 returns c =
-    let numbered = c .before in
-    let laid = numbered .before in
-    let took = laid .before .before in
+    let kept = c .before .before in
+    let numbered = kept .before in
+    let took = numbered .before in
     record {
       reply = took .take .result;
       takes = rw (sym (took .before .reader .ensures)) (took .take .ensures);
-      is-number = c .number .ensures;
-      is-after = numbered .numbers .ensures;
+      is-number = numbered .number .ensures;
+      is-after = kept .numbers .ensures;
       is-taken = refl;
-      brings = laid .lay-line .ensures;
+      brings = c .lay-line .ensures;
     }
 
 pub woolyard-parts-take-spec : {M : Type 1} → statement M
 woolyard-parts-take-spec =
-    tie.close (tie.spec reader-requires take-requires lay-line-requires numbers-requires number-requires returns)
+    tie.close (tie.spec reader-requires take-requires number-requires numbers-requires lay-line-requires returns)
