@@ -173,7 +173,7 @@ module _ (standing : Standing) (part : List ℕ) (from : ℕ) (inside-part : fro
             ∙ behind-quiet (Open standing) text (lineEnd ∷ []) held
             ∙ one-byte (Open with-text) lineEnd
 
-        pub end-too-long : room standing ≡ line .end - from → Goes standing rest from (record { reader = TooLong; brought = Brought.Nothing; taken = line .next })
+        pub end-too-long : room standing ≤ line .end - from → Goes standing rest from (record { reader = TooLong; brought = Brought.Nothing; taken = line .next })
         end-too-long full = goes-quiet TooLong (then-end ∙ passes-most with-text lineEnd (omega arith))
 
         abbrev met : Line

@@ -45,18 +45,27 @@ loop-again c = goes-quietly (c .before .before .before .before .before .before .
 enum-known-now-2 : tie.Need-enum-known-now-2 Inv-loop μ-loop
 enum-known-now-2 c = search needs
 
+nothing-requires : tie.Need-nothing-requires Inv-loop μ-loop
+nothing-requires c κs = search needs
+
 returns-2 : tie.Need-returns-2 Inv-loop μ-loop
-returns-2 c = fault-uses-up (c .before .before .before .before .loop .inv) (Malformed _) (c .before .now2 .given .1) tt
+returns-2 c = rw (c .nothing .ensures) (fault-uses-up (c .before .before .before .before .before .loop .inv) (Malformed _) (c .before .before .now2 .given .1) tt)
 
 enum-told-3 : tie.Need-enum-told-3 Inv-loop μ-loop
 enum-told-3 c = search needs
 
+nothing-requires-2 : tie.Need-nothing-requires-2 Inv-loop μ-loop
+nothing-requires-2 c κs = search needs
+
 returns-3 : tie.Need-returns-3 Inv-loop μ-loop
-returns-3 c = fault-uses-up (c .before .before .before .loop .inv) TooLong (c .enum-told3 .given .1) tt
+returns-3 c = rw (c .nothing2 .ensures) (fault-uses-up (c .before .before .before .before .loop .inv) TooLong (c .before .enum-told3 .given .1) tt)
+
+nothing-requires-3 : tie.Need-nothing-requires-3 Inv-loop μ-loop
+nothing-requires-3 c κs = search needs
 
 returns-4 : tie.Need-returns-4 Inv-loop μ-loop
-returns-4 c = used-up (c .before .loop .inv) (c .loop-test .left)
+returns-4 c = rw (c .nothing3 .ensures) (used-up (c .before .before .loop .inv) (c .before .loop-test .left))
 
 pub take-spec : {M : Type 1} → statement M
 take-spec =
-    tie.close (tie.spec Inv-loop μ-loop loop-holds enum-known-now go-on-requires enum-told returns enum-told-2 loop-less loop-again enum-known-now-2 returns-2 enum-told-3 returns-3 returns-4)
+    tie.close (tie.spec Inv-loop μ-loop loop-holds enum-known-now go-on-requires enum-told returns enum-told-2 loop-less loop-again enum-known-now-2 nothing-requires returns-2 enum-told-3 nothing-requires-2 returns-3 nothing-requires-3 returns-4)

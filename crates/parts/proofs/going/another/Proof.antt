@@ -1,9 +1,9 @@
--- `parts::another` meets its contract: the test is the definition's. Assumes nothing.
+-- `parts::going::another` meets its contract: the test is the definition's. Assumes nothing.
 use native.Mathlib.Numerals.{add-one}
 use borrow.Author.Needs.{needs}
 use borrow.Author.Tests.{le-leb, lt-leb}
-use Rattle.parts.proofs.another.Statement.{statement}
-use Rattle.parts.proofs.another.Tie as tie
+use Rattle.parts.proofs.going.another.Statement.{statement}
+use Rattle.parts.proofs.going.another.Tie as tie
 
 returns : tie.Need-returns
 returns c = simp (le-leb _ _ (c .if1 .taken))
