@@ -111,7 +111,8 @@ pub(crate) fn go_on(standing: Standing, part: &[u8], from: usize) -> Taken
     let spare = spare(held);
     if spare < text {
         if spare < room {
-            return nothing(Reader::Malformed { place }, next);
+            let fault = Reader::Malformed { place };
+            return nothing(fault, next);
         }
     }
     if room < text {
@@ -130,9 +131,6 @@ pub(crate) fn go_on(standing: Standing, part: &[u8], from: usize) -> Taken
     if room <= text {
         return nothing(Reader::TooLong, next);
     }
-    behind(
-        ended_line(cursor, place + held + text + 1, digest),
-        state_lines,
-        next,
-    )
+    let met = ended_line(cursor, place + held + text + 1, digest);
+    behind(met, state_lines, next)
 }

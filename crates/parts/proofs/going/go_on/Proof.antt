@@ -1,13 +1,15 @@
 -- `parts::going::go_on` meets its contract: each return is one of the cases of what a scan takes. Assumes nothing.
-use mathlib.Core.Path.{sym, _∙_}
+use mathlib.Core.Path.{sym, ap, _∙_}
 use mathlib.Core.Logic.{⊎-elim}
 use Prim.Native.Nat.{_-_, _≤_, _<_}
 use native.Mathlib.Omega.{arith}
 use borrow.Author.Needs.{needs}
 use borrow.Author.Tests.{not-true, not-false}
 use Rattle.parts.specs.declared.Reader.the-variants.{Malformed, TooLong}
+use Rattle.sheets.specs.declared.Line.{Line}
 use Rattle.readings.specs.Readers.{mostBytes}
 use Rattle.parts.specs.Bytes.{total}
+use Rattle.parts.specs.Inside.{behindOf}
 use Rattle.parts.proofs.Texts.{Wants, room, spare, passes-most, not-wanted}
 use Rattle.parts.proofs.Stretches.{text-long, stops-at-first, too-many, too-long, holds-all, end-too-long, line-ends}
 use Rattle.parts.proofs.going.go_on.Statement.{statement}
@@ -38,6 +40,15 @@ full c = omega arith
 
 less : (c : tie.Else8) → scanned (c .before .before .before .before .before) .scan .result .end - begin (scanned (c .before .before .before .before .before)) .args .from < room (begin (scanned (c .before .before .before .before .before)) .args .standing)
 less c = omega arith
+
+-- Before the sums that lead to it, so that another place is refused here.
+returns-8 : tie.Need-returns-8
+returns-8 c =
+    let ended = c .before .before .before in
+    let asked = ended .before .before .before .before in
+    let s = scanned asked in
+    line-ends _ _ _ (begin s .pre) _ (s .scan .ensures) (wants asked) (below asked) (few (ended .before)) (short (ended .before)) (ended .if7 .left) (less (c .before .before)) _
+    (c .behind .ensures ∙ ap (λ (met : Line). behindOf met (begin s .args .standing .«state_lines») (s .scan .result .next)) (c .before .ended-line .ensures))
 
 scan-requires : tie.Need-scan-requires
 scan-requires c κs = search needs
@@ -146,14 +157,6 @@ ended-line-requires c κs = search needs
 
 behind-requires : tie.Need-behind-requires
 behind-requires c κs = search needs
-
-returns-8 : tie.Need-returns-8
-returns-8 c =
-    let ended = c .before .before .before in
-    let asked = ended .before .before .before .before in
-    let s = scanned asked in
-    line-ends _ _ _ (begin s .pre) _ (s .scan .ensures) (wants asked) (below asked) (few (ended .before)) (short (ended .before)) (ended .if7 .left) (less (c .before .before)) _
-    (rw (sym (c .before .ended-line .ensures)) (c .behind .ensures))
 
 pub go-on-spec : {M : Type 1} → statement M
 go-on-spec =
