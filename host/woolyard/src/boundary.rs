@@ -1,4 +1,4 @@
-//! The thirteen functions of include/woolyard.h, as they are: numbers in, the reply's number out, and the
+//! The fifteen functions of include/woolyard.h, as they are: numbers in, the reply's number out, and the
 //! figures in the places that the caller lends. All that is unsafe stands here.
 //!
 //! The header asks that a pointer points to as many elements as its array or its length says, that it
@@ -22,6 +22,15 @@ pub const BAND_ROOTS: usize = 2;
 
 /// How many lists a sheet is written from, two for each fluid.
 pub const SHEET_LISTS: usize = 6;
+
+/// How many numbers are kept of a sheet between two of its parts.
+pub const PARTS: usize = 8;
+
+/// How many numbers are answered of a state line that has ended: three as written, the reply's and its figures.
+pub const LINE_NUMBERS: usize = 4 + FIGURES;
+
+/// The number of a part in which no other state line ends. It is no refusal.
+pub const PART_USED_UP: u64 = 16;
 
 mod foreign {
     extern "C" {
@@ -95,6 +104,15 @@ mod foreign {
             k: u64,
             state: *mut [u64; 3],
         ) -> u64;
+        pub fn woolyard_parts_take(
+            parts: *mut [u64; super::PARTS],
+            part: *const u8,
+            length: usize,
+            taken: *mut u64,
+            answer: *mut [u64; super::LINE_NUMBERS],
+        ) -> u64;
+        pub fn woolyard_parts_end(parts: *const [u64; super::PARTS], reading: *mut [u64; 2])
+            -> u64;
         pub fn woolyard_write_sheet(
             hydrogen_millikelvin: *const u64,
             hydrogen_millikelvin_length: usize,
@@ -271,6 +289,28 @@ pub fn sheet(sheet: &[u8], reading: &mut [u64; 3]) -> u64 {
 pub fn sheet_line(sheet: &[u8], k: u64, state: &mut [u64; 3]) -> u64 {
     // SAFETY: as for `sheet`, with `state` for `reading`.
     unsafe { foreign::woolyard_sheet_line(sheet.as_ptr(), sheet.len(), k, state) }
+}
+
+/// `woolyard_parts_take`: any bytes as the next of a sheet that arrives in parts, and any numbers as what is kept of it;
+/// `taken` is how many bytes were used, and `answer` what is answered of a state line that ended, or zeros.
+#[inline]
+pub fn parts_take(
+    parts: &mut [u64; PARTS],
+    part: &[u8],
+    taken: &mut u64,
+    answer: &mut [u64; LINE_NUMBERS],
+) -> u64 {
+    // SAFETY: `part` has the bytes that its length says and none is written; `parts`, `taken` and `answer` are the
+    // places that are, and lie apart from it and from each other, since they are `&mut`.
+    unsafe { foreign::woolyard_parts_take(parts, part.as_ptr(), part.len(), taken, answer) }
+}
+
+/// `woolyard_parts_end`: the number of state lines and the place, if the sheet were over here.
+#[inline]
+pub fn parts_end(parts: &[u64; PARTS], reading: &mut [u64; 2]) -> u64 {
+    // SAFETY: `parts` is the eight numbers that are read; `reading` is the two places that are written, and lies
+    // apart, since it is `&mut`.
+    unsafe { foreign::woolyard_parts_end(parts, reading) }
 }
 
 /// `woolyard_write_sheet`: for hydrogen, oxygen and nitrogen in turn a list of temperatures in millikelvin and one of

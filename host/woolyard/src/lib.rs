@@ -4,8 +4,8 @@
 //! Safe Rust over `libwoolyard.a`, whose functions are proved to answer what document 01 (rules and
 //! scope of the build) defines, as later requests amend it. Every function answers every input, and
 //! the caller checks nothing first. None keeps a reference or has state of its own, so calls may run at
-//! the same time; and none allocates but [`claims`], [`write_sheet`] and [`write_sheet_into`], which make
-//! lists of their rows.
+//! the same time; what is known of a sheet that arrives in parts is the caller's own, a [`Parts`]. And none
+//! allocates but [`claims`], [`write_sheet`] and [`write_sheet_into`], which make lists of their rows.
 //!
 //! ```
 //! use woolyard::{Fluid, Kind, Refusal, Side};
@@ -24,14 +24,16 @@
 //! ```
 
 pub mod boundary;
+mod parts;
 mod reply;
 #[cfg(test)]
 mod tests;
 
 use boundary::{BAND_ROOTS, FIGURES, SHEET_LISTS, SIDE_FIGURES, WALK_FIGURES};
+pub use parts::{Lines, Parts};
 pub use reply::{
-    Answer, Band, Claim, FaultySheet, Fluid, Kind, Refusal, RefusedClaim, Side, SideAnswer, State,
-    Walk,
+    Answer, Band, Claim, Fault, FaultySheet, Fluid, Kind, Line, Refusal, RefusedClaim, Side,
+    SideAnswer, State, Walk,
 };
 
 /// How many bytes a book has.
@@ -271,13 +273,13 @@ pub fn sheet(sheet: &[u8]) -> Result<u64, FaultySheet<'_>> {
     let mut reading = [0; 3];
     let number = boundary::sheet(sheet, &mut reading);
     let [state_lines, place, length] = reading;
-    match Refusal::check(number) {
+    match Fault::check(number, place) {
         Ok(()) => Ok(state_lines),
-        Err(Refusal::SheetTooLong) => Err(FaultySheet::TooLong),
-        // both lie inside the sheet, so neither is cut off
-        Err(_) => Err(FaultySheet::Malformed {
-            place: place as usize,
-            line: &sheet[place as usize..][..length as usize],
+        Err(Fault::TooLong) => Err(FaultySheet::TooLong),
+        // the line lies inside the sheet, so its length is not cut off
+        Err(Fault::Malformed { place }) => Err(FaultySheet::Malformed {
+            place,
+            line: &sheet[place..][..length as usize],
         }),
     }
 }

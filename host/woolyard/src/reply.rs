@@ -140,6 +140,14 @@ pub struct State {
     pub pascals: u64,
 }
 
+/// A state line of a sheet in parts, and the reply to its state: the figures, or the first of refusals 21, 22, 31 and 32
+/// that applies.
+#[derive(Clone, Copy, Debug, PartialEq, Eq, Hash)]
+pub struct Line {
+    pub state: State,
+    pub reply: Result<Answer, Refusal>,
+}
+
 /// The refusals, each with the number of its reply.
 #[derive(Clone, Copy, Debug, PartialEq, Eq, Hash)]
 pub enum Refusal {
@@ -233,7 +241,49 @@ impl fmt::Display for Refusal {
 
 impl Error for Refusal {}
 
-/// What comes back for a refused sheet.
+/// What is wrong with a refused sheet.
+#[derive(Clone, Copy, Debug, PartialEq, Eq, Hash)]
+pub enum Fault {
+    Malformed {
+        /// The first byte of the first line that can't stand there.
+        place: usize,
+    },
+    TooLong,
+}
+
+impl Fault {
+    pub fn refusal(&self) -> Refusal {
+        match self {
+            Fault::Malformed { .. } => Refusal::SheetMalformed,
+            Fault::TooLong => Refusal::SheetTooLong,
+        }
+    }
+
+    /// Nothing for the number 0, which is a good sheet's; the fault for any other.
+    pub(crate) fn check(number: u64, place: u64) -> Result<(), Fault> {
+        Refusal::check(number).map_err(|refusal| match refusal {
+            Refusal::SheetTooLong => Fault::TooLong,
+            // the archive is for x86-64, so it is not cut off
+            _ => Fault::Malformed {
+                place: place as usize,
+            },
+        })
+    }
+}
+
+impl fmt::Display for Fault {
+    fn fmt(&self, text: &mut fmt::Formatter<'_>) -> fmt::Result {
+        self.refusal().fmt(text)?;
+        match self {
+            Fault::Malformed { place } => write!(text, " at byte {place}"),
+            Fault::TooLong => Ok(()),
+        }
+    }
+}
+
+impl Error for Fault {}
+
+/// What comes back for a sheet that is refused as a whole: the fault, with the line.
 #[derive(Clone, Copy, Debug, PartialEq, Eq, Hash)]
 pub enum FaultySheet<'sheet> {
     Malformed {
@@ -246,21 +296,24 @@ pub enum FaultySheet<'sheet> {
 }
 
 impl FaultySheet<'_> {
-    pub fn refusal(&self) -> Refusal {
-        match self {
-            FaultySheet::Malformed { .. } => Refusal::SheetMalformed,
-            FaultySheet::TooLong => Refusal::SheetTooLong,
+    /// Without the line, as it is told of a sheet in parts.
+    pub fn fault(&self) -> Fault {
+        match *self {
+            FaultySheet::Malformed { place, .. } => Fault::Malformed { place },
+            FaultySheet::TooLong => Fault::TooLong,
         }
+    }
+
+    pub fn refusal(&self) -> Refusal {
+        self.fault().refusal()
     }
 }
 
 impl fmt::Display for FaultySheet<'_> {
     fn fmt(&self, text: &mut fmt::Formatter<'_>) -> fmt::Result {
-        self.refusal().fmt(text)?;
+        self.fault().fmt(text)?;
         match self {
-            FaultySheet::Malformed { place, line } => {
-                write!(text, " at byte {place}: \"{}\"", line.escape_ascii())
-            }
+            FaultySheet::Malformed { line, .. } => write!(text, ": \"{}\"", line.escape_ascii()),
             FaultySheet::TooLong => Ok(()),
         }
     }

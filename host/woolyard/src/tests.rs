@@ -1,6 +1,8 @@
-//! Document 01, "Points worked through" and "State sheets", and document 02, C-11, C-14, C-17 to C-20 and C-22 to C-24.
+//! Document 01, "Points worked through" and "State sheets", and document 02, C-11, C-14, C-15, C-17 to C-20 and
+//! C-22 to C-24.
 
 use super::*;
+use boundary::PARTS;
 
 const EXAMPLE: &[u8] = b"1
 300000 1000000
@@ -567,17 +569,22 @@ fn faulty_line_of_a_sheet() {
     assert!(std::ptr::eq(line, &text[4..18]));
 }
 
-/// Full sections of the widest lines are too long. With shorter numbers in the first lines they have as many
-/// bytes as a sheet may have, and are good.
-#[test]
-fn full_sections() {
+/// Full sections of the widest lines, which are too long; and with shorter numbers in the first lines, so that they
+/// have as many bytes as a sheet may have.
+fn widest_and_longest() -> [String; 2] {
     let line = "9999999999 9999999999";
     let section = format!("1000\n{}", format!("{line}\n").repeat(1000));
     let widest = section.repeat(3);
-    assert_eq!(sheet(widest.as_bytes()), Err(FaultySheet::TooLong));
     let longest = widest
         .replacen(line, "9 9", 26)
         .replacen(line, "9 99999999", 1);
+    [widest, longest]
+}
+
+#[test]
+fn full_sections() {
+    let [widest, longest] = widest_and_longest();
+    assert_eq!(sheet(widest.as_bytes()), Err(FaultySheet::TooLong));
     assert_eq!(longest.len(), SHEET_MOST_BYTES);
     assert_eq!(sheet(longest.as_bytes()), Ok(3000));
 }
@@ -700,5 +707,173 @@ fn lists_of_a_sheet_that_are_refused() {
     }
     for refusal in [Refusal::ListsUnfit, Refusal::TooManyDigits, Refusal::NoRoom] {
         assert_eq!(Refusal::check(refusal.number()), Err(refusal));
+    }
+}
+
+/// What is answered of a sheet in these parts, and what is said at its end.
+fn in_parts(list: &[&[u8]]) -> (Vec<Line>, Result<u64, Fault>) {
+    let mut parts = Parts::default();
+    let mut lines = Vec::new();
+    for part in list {
+        lines.extend(parts.take(part).flatten());
+    }
+    (lines, parts.end())
+}
+
+fn line_of(state: State) -> Line {
+    let reply = super::state(state.fluid, state.millikelvin, state.pascals);
+    Line { state, reply }
+}
+
+/// What `sheet` says of it, without the line.
+fn whole(text: &[u8]) -> Result<u64, Fault> {
+    sheet(text).map_err(|faulty| faulty.fault())
+}
+
+/// A line that is wrong in each way and a section too many, each behind a state; with the byte at which the fault is
+/// met, and its place.
+const FAULTY: [(&[u8], usize, usize); 7] = [
+    (b"1\n7 7\n1\n120000  500000\n0\n", 22, 8),
+    (b"1\n7 7\n1\n12345678901 7\n0\n", 21, 8),
+    (b"1\n7 7\n1\n1234567890 12345678901\n0\n", 29, 8),
+    (b"1\n7 7\n1001\n7 7\n0\n", 10, 6),
+    (b"1\n7 7\n07\n", 8, 6),
+    (b"1\n7 7\n0\n0\n0\n", 10, 10),
+    (b"1\n7 7\n0\n\n", 8, 8),
+];
+
+/// What is wrong with them is met only where they are over.
+const UNFINISHED: [&[u8]; 5] = [b"", b"2\n7 7\n", b"2\n7 7", b"0\n0\n0", &[b'7'; 21]];
+
+/// Into three parts at every two places, which leaves some of them empty.
+#[test]
+fn sheets_cut_anywhere() {
+    let faulty = FAULTY.map(|(text, ..)| text);
+    for text in [&faulty[..], &UNFINISHED, &[EXAMPLE, b"0\n0\n0\n"]].concat() {
+        let expected = in_parts(&[text]);
+        assert_eq!(expected.1, whole(text), "{}", text.escape_ascii());
+        for second in 0..=text.len() {
+            let (before, last) = text.split_at(second);
+            for first in 0..=second {
+                let (first, middle) = before.split_at(first);
+                assert_eq!(in_parts(&[first, middle, last]), expected);
+            }
+        }
+    }
+    assert_eq!(in_parts(&[EXAMPLE]).0, EXAMPLE_STATES.map(line_of));
+}
+
+/// Each state as the last byte of its line is taken, and at every place what is said of the sheet so far.
+#[test]
+fn sheet_byte_by_byte() {
+    let mut parts = Parts::default();
+    let mut states = EXAMPLE_STATES.into_iter();
+    for (place, byte) in EXAMPLE.iter().enumerate() {
+        assert_eq!(parts.end(), whole(&EXAMPLE[..place]));
+        let ends = [16, 33, 47, 60].contains(&place);
+        let expected = if ends { states.next() } else { None };
+        let lines: Vec<_> = parts.take(&[*byte]).collect();
+        assert_eq!(lines, Vec::from_iter(expected.map(line_of).map(Ok)));
+    }
+    assert_eq!((parts.end(), states.next()), (Ok(4), None));
+}
+
+/// The byte at which a fault is met. Behind it no part brings anything but the fault, once, and so the end.
+fn met(text: &[u8]) -> Option<(usize, Fault)> {
+    let mut parts = Parts::default();
+    let place = text
+        .iter()
+        .position(|byte| parts.take(&[*byte]).any(|line| line.is_err()))?;
+    let fault = parts.end().expect_err("a fault");
+    for part in [&text[place + 1..], EXAMPLE, &[7; SHEET_MOST_BYTES], b""] {
+        assert_eq!(Vec::from_iter(parts.take(part)), [Err(fault)]);
+        assert_eq!(parts.end(), Err(fault));
+    }
+    Some((place, fault))
+}
+
+/// A bad line at its end, but a long one at its 22nd byte; and what is behind the last line at once.
+#[test]
+fn where_a_fault_is_met() {
+    for (text, byte, place) in FAULTY.into_iter().chain([(&[b'7'; 22][..], 21, 0)]) {
+        let fault = Fault::Malformed { place };
+        assert_eq!(met(text), Some((byte, fault)), "{}", text.escape_ascii());
+    }
+    assert_eq!(UNFINISHED.map(met), [None; 5]);
+    assert_eq!(met(EXAMPLE), None);
+}
+
+/// Byte 65,537 is too much, also where it would be malformed; but what was so before stays so.
+#[test]
+fn longest_sheet_in_parts() {
+    let [widest, longest] = widest_and_longest();
+    assert_eq!(in_parts(&[longest.as_bytes()]).1, Ok(3000));
+    assert_eq!(met(longest.as_bytes()), None);
+    for behind in ["0", "\n", "x"] {
+        let text = format!("{longest}{behind}");
+        assert_eq!(
+            met(text.as_bytes()),
+            Some((SHEET_MOST_BYTES, Fault::TooLong))
+        );
+    }
+    let (lines, end) = in_parts(&[widest.as_bytes()]);
+    assert_eq!((lines.len(), end), (2978, Err(Fault::TooLong)));
+    let malformed = Err(Fault::Malformed { place: 0 });
+    assert_eq!(in_parts(&[&[b'7'; SHEET_MOST_BYTES + 1]]).1, malformed);
+}
+
+/// From every place, with the numbers stored, and with what a clone has taken lost.
+#[test]
+fn parts_stored_and_gone_on_from() {
+    let all = EXAMPLE_STATES.map(line_of).map(Ok);
+    for place in 0..=EXAMPLE.len() {
+        let (before, rest) = EXAMPLE.split_at(place);
+        let mut parts = Parts::default();
+        let lines = Vec::from_iter(parts.take(before));
+        let mut other = parts.clone();
+        assert!(other.take(b"no sheet\n").any(|line| line.is_err()));
+        let mut stored = Parts::from(parts.numbers());
+        for parts in [&mut parts, &mut stored] {
+            let more = parts.take(rest);
+            assert_eq!(Vec::from_iter(lines.iter().copied().chain(more)), all);
+            assert_eq!(parts.end(), Ok(4));
+        }
+    }
+}
+
+/// What is not asked for is not taken, and is there to be taken.
+#[test]
+fn part_left_off() {
+    let mut parts = Parts::default();
+    let mut lines = parts.take(EXAMPLE);
+    assert_eq!(lines.rest(), EXAMPLE);
+    assert_eq!(lines.next(), Some(Ok(line_of(EXAMPLE_STATES[0]))));
+    let rest = lines.rest();
+    assert_eq!(rest, &EXAMPLE[17..]);
+    assert_eq!(parts.end(), whole(&EXAMPLE[..17]));
+    let mut lines = parts.take(rest);
+    assert_eq!(lines.by_ref().count(), 3);
+    assert_eq!((lines.rest(), lines.next()), (&b""[..], None));
+    assert_eq!(parts.end(), Ok(4));
+}
+
+/// Numbers that no sheet has left are taken too, and every byte behind them.
+#[test]
+fn any_numbers_as_parts() {
+    let mut kept = Vec::new();
+    for number in [1, 3, 6, 7, 16, 1000, 65_536, 65_537, 1 << 32, u64::MAX] {
+        kept.push([number; PARTS]);
+        for which in 0..PARTS {
+            let mut numbers = [0; PARTS];
+            numbers[which] = number;
+            kept.push(numbers);
+        }
+    }
+    for numbers in kept {
+        let mut parts = Parts::from(numbers);
+        assert_eq!(parts.numbers(), numbers);
+        // no more lines than have an end, and at most one fault
+        assert!(parts.take(EXAMPLE).count() <= 8, "{numbers:?}");
+        let _ = parts.end();
     }
 }
