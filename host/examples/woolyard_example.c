@@ -1,8 +1,10 @@
 /* The header in use: a state, one side of it, the state with a book, another fluid, a walk, a band, claims, refusals, the heat capacity, the
- * heat table, the excess viscosity factor, a sheet and its lines, a faulty sheet, and a sheet written from rows, with the answers to it. */
+ * heat table, the excess viscosity factor, a sheet and its lines, a faulty sheet, a sheet written from rows, with the answers to it, and sheets
+ * that arrive in parts. */
 #include "woolyard.h"
 #include <inttypes.h>
 #include <stdio.h>
+#include <string.h>
 
 static void print_sheet(const char *text, size_t length)
 {
@@ -30,21 +32,48 @@ static uint64_t write_rows(const uint64_t (*rows)[3], size_t count, uint8_t *buf
                                 millikelvin[2], counts[2], pascals[2], counts[2], buffer, room, length);
 }
 
-/* As the program `sheet` prints them. */
+/* As the program `sheet` prints it. */
+static void print_answer(uint64_t number, const uint64_t *figures)
+{
+    if (number != WOOLYARD_ANSWERED) {
+        printf("  NO %" PRIu64 "\n", number);
+        return;
+    }
+    int split = figures[WOOLYARD_KIND] == WOOLYARD_KIND_SPLIT;
+    printf("  %s %" PRIu64 " %" PRIu64, split ? "SPLIT" : "ONE", figures[WOOLYARD_GAS_ROOT], figures[WOOLYARD_GAS_DENSITY]);
+    if (split)
+        printf(" %" PRIu64 " %" PRIu64, figures[WOOLYARD_DENSE_ROOT], figures[WOOLYARD_DENSE_DENSITY]);
+    printf("\n");
+}
+
 static void print_answers(const uint8_t *sheet, size_t length)
 {
     uint64_t state[3], figures[5];
     for (uint64_t k = 0; woolyard_sheet_line(sheet, length, k, state) == WOOLYARD_ANSWERED; k++) {
         uint64_t number = woolyard_state(state[0], state[1], state[2], figures);
-        if (number != WOOLYARD_ANSWERED) {
-            printf("  NO %" PRIu64 "\n", number);
-            continue;
+        print_answer(number, figures);
+    }
+}
+
+/* Each answer as its line ends; and behind each part the fault, or what is said of the sheet if it is over there. */
+static void print_parts(const char *const *list, size_t count)
+{
+    uint64_t parts[WOOLYARD_PARTS] = { 0 }, number, taken, answer[9], reading[2];
+    printf("sheet in parts\n");
+    for (; count > 0; count--, list++) {
+        const uint8_t *part = (const uint8_t *)*list;
+        size_t length = strlen(*list);
+        printf("part of %zu bytes\n", length);
+        while ((number = woolyard_parts_take(parts, part, length, &taken, answer)) == WOOLYARD_ANSWERED) {
+            print_answer(answer[WOOLYARD_LINE_NUMBER], answer + WOOLYARD_LINE_FIGURES);
+            part += taken;
+            length -= taken;
         }
-        int split = figures[WOOLYARD_KIND] == WOOLYARD_KIND_SPLIT;
-        printf("  %s %" PRIu64 " %" PRIu64, split ? "SPLIT" : "ONE", figures[WOOLYARD_GAS_ROOT], figures[WOOLYARD_GAS_DENSITY]);
-        if (split)
-            printf(" %" PRIu64 " %" PRIu64, figures[WOOLYARD_DENSE_ROOT], figures[WOOLYARD_DENSE_DENSITY]);
-        printf("\n");
+        printf("  %s: ", number == WOOLYARD_PART_USED_UP ? "if it is over" : "refused");
+        if (woolyard_parts_end(parts, reading) == WOOLYARD_SHEET_MALFORMED)
+            printf("byte %" PRIu64 " begins the faulty line\n", reading[1]);
+        else
+            printf("%" PRIu64 " state lines\n", reading[0]);
     }
 }
 
@@ -130,5 +159,10 @@ int main(void)
     print_answers(buffer, length);
     number = write_rows(rows, 4, buffer, length - 1, &refused_length);
     printf("with room for one byte less: reply %" PRIu64 "\n", number);
+
+    static const char *const cut[] = { "1\n300000 1000000\n2\n1200", "00 500000\n55999 500000\n0\n" };
+    static const char *const faulty_cut[] = { "0\n1\n120000 ", " 500000\n", "0\n" };
+    print_parts(cut, 2);
+    print_parts(faulty_cut, 3);
     return 0;
 }

@@ -7,13 +7,14 @@ import ctypes
 import sys
 from ctypes import byref, c_double, c_size_t, c_uint8, c_uint64
 
-ANSWERED, SHEET_MALFORMED = 0, 6
+ANSWERED, SHEET_MALFORMED, PART_USED_UP, LINE_NUMBER = 0, 6, 16, 3
 PARAHYDROGEN, OXYGEN, NITROGEN, GAS, DENSE, KIND_SPLIT = 0, 1, 2, 0, 1, 2
-BOOK_BYTES, WALK_ENOUGH, SHEET_MOST_BYTES = 192, 100001, 65536
+BOOK_BYTES, WALK_ENOUGH, SHEET_MOST_BYTES, PARTS = 192, 100001, 65536, 8
 
 woolyard = ctypes.CDLL(sys.argv[1])
 Figures, SideFigures, Walked, Roots = c_uint64 * 5, c_uint64 * 2, c_uint64 * 2, c_uint64 * 2
 Two, Three, Book, Buffer = c_uint64 * 2, c_uint64 * 3, c_uint8 * BOOK_BYTES, c_uint8 * SHEET_MOST_BYTES
+Parts, Line = c_uint64 * PARTS, c_uint64 * 9
 Numbers = ctypes.POINTER(c_uint64)
 woolyard.woolyard_state.argtypes = [c_uint64, c_uint64, c_uint64, Figures]
 woolyard.woolyard_state_with_book.argtypes = [c_uint64, c_uint64, c_uint64, c_uint64, Book, c_size_t, Figures]
@@ -26,8 +27,11 @@ woolyard.woolyard_heat_table.argtypes = [c_uint64, ctypes.POINTER(c_uint64)]
 woolyard.woolyard_viscosity.argtypes = [c_uint64, ctypes.POINTER(c_uint64)]
 woolyard.woolyard_sheet.argtypes = [ctypes.c_char_p, c_size_t, Three]
 woolyard.woolyard_sheet_line.argtypes = [ctypes.c_char_p, c_size_t, c_uint64, Three]
+woolyard.woolyard_parts_take.argtypes = [Parts, ctypes.c_char_p, c_size_t, Numbers, Line]
+woolyard.woolyard_parts_end.argtypes = [Parts, Two]
 woolyard.woolyard_write_sheet.argtypes = [Numbers, c_size_t] * 6 + [Buffer, c_size_t, Numbers]
-for name in "state state_with_book side walk band claims heat heat_table viscosity sheet sheet_line write_sheet".split():
+names = "state state_with_book side walk band claims heat heat_table viscosity sheet sheet_line parts_take parts_end write_sheet"
+for name in names.split():
     getattr(woolyard, f"woolyard_{name}").restype = c_uint64
 
 
@@ -59,18 +63,39 @@ def write_rows(rows, buffer, room):
     return number, length.value
 
 
+def print_answer(number, kind, gas_root, dense_root, gas_density, dense_density):
+    """As the program `sheet` prints it."""
+    if number != ANSWERED:
+        print(f"  NO {number}")
+    elif kind == KIND_SPLIT:
+        print(f"  SPLIT {gas_root} {gas_density} {dense_root} {dense_density}")
+    else:
+        print(f"  ONE {gas_root} {gas_density}")
+
+
 def print_answers(sheet):
-    """As the program `sheet` prints them."""
     figures = Figures()
     for state in states_of(sheet):
         number = woolyard.woolyard_state(*state, figures)
-        kind, gas_root, dense_root, gas_density, dense_density = figures
-        if number != ANSWERED:
-            print(f"  NO {number}")
-        elif kind == KIND_SPLIT:
-            print(f"  SPLIT {gas_root} {gas_density} {dense_root} {dense_density}")
+        print_answer(number, *figures)
+
+
+def print_parts(parts_of_sheet):
+    """Each answer as its line ends; and behind each part the fault, or what is said of the sheet if it is over there."""
+    parts, taken, line, reading = Parts(), c_uint64(), Line(), Two()
+    print("sheet in parts")
+    for part in parts_of_sheet:
+        print(f"part of {len(part)} bytes")
+        while (number := woolyard.woolyard_parts_take(parts, part, len(part), byref(taken), line)) == ANSWERED:
+            print_answer(*line[LINE_NUMBER:])
+            part = part[taken.value :]
+        when = "if it is over" if number == PART_USED_UP else "refused"
+        number = woolyard.woolyard_parts_end(parts, reading)
+        count, place = reading
+        if number == SHEET_MALFORMED:
+            print(f"  {when}: byte {place} begins the faulty line")
         else:
-            print(f"  ONE {gas_root} {gas_density}")
+            print(f"  {when}: {count} state lines")
 
 
 figures = Figures()
@@ -149,3 +174,6 @@ print(f"sheet written from four rows: reply {number}, {length} bytes")
 print_answers(bytes(buffer[:length]))
 number, _ = write_rows(rows, buffer, length - 1)
 print(f"with room for one byte less: reply {number}")
+
+print_parts([b"1\n300000 1000000\n2\n1200", b"00 500000\n55999 500000\n0\n"])
+print_parts([b"0\n1\n120000 ", b" 500000\n", b"0\n"])

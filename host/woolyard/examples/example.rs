@@ -1,6 +1,6 @@
 //! The wrappers in use: what host/examples/woolyard_example.c does, in Rust.
 
-use woolyard::{Answer, Claim, FaultySheet, Fluid, Kind, Refusal, Side, State};
+use woolyard::{Answer, Claim, Fault, FaultySheet, Fluid, Kind, Parts, Refusal, Side, State};
 
 fn print_sheet(sheet: &[u8]) {
     match woolyard::sheet(sheet) {
@@ -21,23 +21,50 @@ fn states_of(sheet: &[u8]) -> impl Iterator<Item = State> + '_ {
     (0..).map_while(|k| woolyard::sheet_line(sheet, k).ok())
 }
 
-/// As the program `sheet` prints them.
 fn print_answers(sheet: &[u8]) {
     for line in states_of(sheet) {
-        match woolyard::state(line.fluid, line.millikelvin, line.pascals) {
-            Err(refusal) => println!("  NO {}", refusal.number()),
-            Ok(Answer {
-                kind,
-                gas_root,
-                dense_root,
-                gas_density,
-                dense_density,
-            }) => match kind {
-                Kind::One => println!("  ONE {gas_root} {gas_density}"),
-                Kind::Split => {
-                    println!("  SPLIT {gas_root} {gas_density} {dense_root} {dense_density}")
-                }
-            },
+        print_answer(woolyard::state(line.fluid, line.millikelvin, line.pascals));
+    }
+}
+
+/// As the program `sheet` prints it.
+fn print_answer(reply: Result<Answer, Refusal>) {
+    match reply {
+        Err(refusal) => println!("  NO {}", refusal.number()),
+        Ok(Answer {
+            kind,
+            gas_root,
+            dense_root,
+            gas_density,
+            dense_density,
+        }) => match kind {
+            Kind::One => println!("  ONE {gas_root} {gas_density}"),
+            Kind::Split => {
+                println!("  SPLIT {gas_root} {gas_density} {dense_root} {dense_density}")
+            }
+        },
+    }
+}
+
+/// Each answer as its line ends; and behind each part the fault, or what is said of the sheet if it is over there.
+fn print_parts(list: &[&str]) {
+    println!("sheet in parts");
+    let mut parts = Parts::default();
+    for part in list {
+        println!("part of {} bytes", part.len());
+        let mut when = "if it is over";
+        for line in parts.take(part.as_bytes()) {
+            match line {
+                Ok(line) => print_answer(line.reply),
+                Err(_) => when = "refused",
+            }
+        }
+        match parts.end() {
+            Ok(count) => println!("  {when}: {count} state lines"),
+            Err(Fault::Malformed { place }) => {
+                println!("  {when}: byte {place} begins the faulty line")
+            }
+            Err(Fault::TooLong) => println!("  {when}: too long"),
         }
     }
 }
@@ -156,5 +183,8 @@ fn main() -> Result<(), Refusal> {
     if let Err(refusal) = woolyard::write_sheet_into(&rows, &mut sheet[..room]) {
         println!("with room for one byte less: reply {}", refusal.number());
     }
+
+    print_parts(&["1\n300000 1000000\n2\n1200", "00 500000\n55999 500000\n0\n"]);
+    print_parts(&["0\n1\n120000 ", " 500000\n", "0\n"]);
     Ok(())
 }
