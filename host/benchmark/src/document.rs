@@ -1,7 +1,7 @@
 //! The words around the figures in docs/BENCHMARK.md: on what machine, on which states, and how.
 
 use crate::peer;
-use crate::report::{grouped, percent, Bar, Report};
+use crate::report::{grouped, percent, write_parts, Bar, Report};
 use crate::rounds::{ROUNDS, WARM_UP_ROUNDS};
 use second::cubic::N;
 use second::sheet::LARGEST_COUNT;
@@ -33,6 +33,9 @@ impl Display for Report {
         writeln!(out, "\n## Writing a sheet\n")?;
         self.write_about_writing(out)?;
         self.write_writing(out)?;
+        writeln!(out, "\n## A sheet in parts\n")?;
+        self.write_refused_in_parts(out)?;
+        self.write_accepted_in_parts(out)?;
         writeln!(out, "\n## Program `sheet`\n")?;
         self.write_programs(out)?;
         write_about_programs(out)?;
@@ -165,6 +168,41 @@ the state that it was written from.
         )
     }
 
+    fn write_refused_in_parts(&self, out: &mut Formatter) -> Result {
+        let refused = &self.in_parts.refused;
+        let bytes = grouped(refused.bytes);
+        write!(
+            out,
+            "\
+Microseconds for a sheet that arrives in parts beside the very same bytes read whole, in rounds of their own, and how
+many bytes a second the median round takes. They are compared round by round, and the median of the ratios is given.
+Before the clock runs, for each size of the parts every answer is checked to be that of `woolyard_state`, and the end
+to be what `woolyard_sheet` says of the whole.
+
+Each state is answered as its line ends, which reading the whole does not do. The states of the sheet of ten-digit
+numbers, {bytes} bytes, are all refused by 22 at once, so that it is the reading which is compared. It is one part of
+65,536 bytes, and that is judged.
+
+"
+        )?;
+        write_parts(out, "the whole, `woolyard_sheet`", refused)
+    }
+
+    fn write_accepted_in_parts(&self, out: &mut Formatter) -> Result {
+        let accepted = &self.in_parts.accepted;
+        let [state_lines, bytes] = [accepted.state_lines, accepted.bytes].map(grouped);
+        write!(
+            out,
+            "
+The same for a sheet of {state_lines} of the states that calls are timed on, as many of each fluid, {bytes} bytes. All are
+accepted, so the whole is read and then each of its states asked for. No bar is set.
+
+"
+        )?;
+        let whole = "the whole, `woolyard_sheet`, and `woolyard_state` for each state";
+        write_parts(out, whole, accepted)
+    }
+
     fn write_about_floors(&self, out: &mut Formatter) -> Result {
         let (counted, n) = (grouped(self.counted), grouped(N as usize));
         write!(
@@ -192,9 +230,9 @@ fn write_about_bars(out: &mut Formatter) -> Result {
         "
 A call for one side has less to work out than the whole call, by a density where there are two, so it may
 not take longer. As that is little, the two are compared round by round, and the median of the ratios is
-judged; so are writing a sheet and reading it. The other ratios are of the median rounds, the last of user
-times. That last one says little: the second implementation scans the whole grid for each state, since it is
-to be plain and not quick, and almost any search beats that.
+judged; so are writing a sheet or taking it in parts and reading it. The other ratios are of the median rounds,
+the last of user times. That last one says little: the second implementation scans the whole grid for each
+state, since it is to be plain and not quick, and almost any search beats that.
 "
     )
 }

@@ -10,6 +10,7 @@ mod claims;
 mod contenders;
 mod document;
 mod floors;
+mod parts;
 mod peer;
 mod programs;
 mod proved;
@@ -22,6 +23,7 @@ mod writing;
 use bands::Bands;
 use claims::Claims;
 use contenders::{Starts, Timings};
+use parts::InParts;
 use report::Report;
 use second::random::Random;
 use std::process::ExitCode;
@@ -58,6 +60,7 @@ fn main() -> ExitCode {
         bands: Bands::measure(&timed, &scanned),
         claims: Claims::measure(&timed),
         writing: Writing::measure(),
+        in_parts: InParts::measure(&timed),
         scan: contenders::scan(&scanned),
         programs: programs::user_times(),
         solver: floors::of_solver(&counted),

@@ -4,6 +4,7 @@ use crate::bands::Bands;
 use crate::claims::Claims;
 use crate::contenders::Timings;
 use crate::floors::{with_a_zero, Difference};
+use crate::parts::{InParts, OfSheet, SIZES};
 use crate::programs::{UserTimes, PROVED_RUNS, SECOND_RUNS};
 use crate::rounds::Timing;
 use crate::walks::Walks;
@@ -22,6 +23,7 @@ pub struct Report {
     pub bands: Bands,
     pub claims: Claims,
     pub writing: Writing,
+    pub in_parts: InParts,
     pub scan: f64,
     pub programs: UserTimes,
     pub solver: Vec<Difference>,
@@ -46,7 +48,7 @@ impl Report {
         self.bars().iter().all(Bar::met)
     }
 
-    pub fn bars(&self) -> [Bar; 9] {
+    pub fn bars(&self) -> [Bar; 10] {
         let bar = |of, above: f64, below: f64, most| Bar {
             of,
             ratio: above / below,
@@ -95,6 +97,12 @@ impl Report {
                 self.writing.write_beside_read,
                 1.0,
                 3.0,
+            ),
+            bar(
+                "taking a sheet in a part of 65,536 bytes / reading it",
+                self.in_parts.one_part_beside_whole(),
+                1.0,
+                1.3,
             ),
             bar(
                 "program `sheet` / second implementation's",
@@ -281,6 +289,36 @@ impl Report {
         }
         Ok(())
     }
+}
+
+/// A sheet in parts, beside what is done with the whole.
+pub fn write_parts(out: &mut Formatter, whole: &str, sheet: &OfSheet) -> Result {
+    writeln!(
+        out,
+        "| what | median round | quickest round | bytes a second | beside the whole |"
+    )?;
+    writeln!(out, "|---|---:|---:|---:|---:|")?;
+    let mut write_row = |what: &str, timing: Timing, ratio: f64| {
+        let a_second = grouped((1e9 * sheet.bytes as f64 / timing.median).round() as usize);
+        let [median, quickest] = [timing.median, timing.quickest].map(|time| time / 1e3);
+        writeln!(
+            out,
+            "| {what} | {median:.1} | {quickest:.1} | {a_second} | {ratio:.3} |"
+        )
+    };
+    write_row(whole, sheet.whole, 1.0)?;
+    for ((size, timing), ratio) in SIZES
+        .into_iter()
+        .zip(sheet.in_parts)
+        .zip(sheet.beside_whole)
+    {
+        let what = match size {
+            1 => "in parts of 1 byte, `woolyard_parts_take`".to_string(),
+            _ => format!("in parts of {} bytes", grouped(size)),
+        };
+        write_row(&what, timing, ratio)?;
+    }
+    Ok(())
 }
 
 fn write_difference(out: &mut Formatter, given: &str, difference: &Difference) -> Result {

@@ -23,7 +23,7 @@ pub struct Writing {
 impl Writing {
     /// Also checks that what is written is the second implementation's sheet, and is read as the same states.
     pub fn measure() -> Writing {
-        let states = wide_states(&mut Random(0x5EED));
+        let states = wide_states();
         let lists = lists_of(&states);
         let sheet = text(lent(&lists)).into_bytes();
         assert_eq!(written(&lists), sheet);
@@ -40,8 +40,9 @@ impl Writing {
     }
 }
 
-/// All numbers have ten digits, and are out of range, which does not matter to a sheet.
-fn wide_states(random: &mut Random) -> Vec<State> {
+/// All numbers have ten digits, and are out of range, which does not matter to a sheet. The same in every run.
+pub fn wide_states() -> Vec<State> {
+    let mut random = Random(0x5EED);
     let mut ten_digits = || 1_000_000_000 + random.number() % 9_000_000_000;
     let fluids = FLUIDS.map(|fluid| [fluid.number; EACH]);
     let states = fluids.as_flattened().iter().map(|&fluid| State {
@@ -89,7 +90,7 @@ fn writes(lists: &OwnLists) -> Pass<'_> {
     })
 }
 
-fn reads(sheet: &[u8]) -> Pass<'_> {
+pub fn reads(sheet: &[u8]) -> Pass<'_> {
     let mut reading = [0; 3];
     Box::new(move || {
         at_once(1, || {
