@@ -2,7 +2,7 @@
 //! C-22 to C-24.
 
 use super::*;
-use boundary::PARTS;
+use boundary::{LINE_NUMBERS, PARTS};
 
 const EXAMPLE: &[u8] = b"1
 300000 1000000
@@ -855,6 +855,31 @@ fn part_left_off() {
     assert_eq!(lines.by_ref().count(), 3);
     assert_eq!((lines.rest(), lines.next()), (&b""[..], None));
     assert_eq!(parts.end(), Ok(4));
+}
+
+/// Every place, whatever it held before: behind a good sheet of the greatest length, and behind nothing.
+#[test]
+fn places_written_for_a_part() {
+    let [_, longest] = widest_and_longest();
+    let mut full = Parts::default();
+    assert_eq!(full.take(longest.as_bytes()).count(), 3000);
+    let answer = [0, 300_000, 1_000_000, 0, 1, 100_474, 100_474, 804, 804];
+    let none = [0; LINE_NUMBERS];
+    for (kept, part, taken, end) in [
+        ([0; PARTS], EXAMPLE, (0, 17, answer), (6, [0, 17])),
+        ([0; PARTS], b"", (16, 0, none), (6, [0, 0])),
+        ([0; PARTS], b"0\n0\n0\n", (16, 6, none), (0, [0, 0])),
+        ([0; PARTS], b"0\nx\n0\n", (6, 6, none), (6, [0, 2])),
+        (full.numbers(), b"", (16, 0, none), (0, [3000, 0])),
+        (full.numbers(), b"x\n", (7, 2, none), (7, [0, 0])),
+    ] {
+        let mut parts = kept;
+        let (mut count, mut answer, mut reading) = (7, [7; LINE_NUMBERS], [7; 2]);
+        let number = boundary::parts_take(&mut parts, part, &mut count, &mut answer);
+        assert_eq!((number, count, answer), taken);
+        let number = boundary::parts_end(&parts, &mut reading);
+        assert_eq!((number, reading), end);
+    }
 }
 
 /// Numbers that no sheet has left are taken too, and every byte behind them.
