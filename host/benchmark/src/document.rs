@@ -180,7 +180,7 @@ Before the clock runs, for each size of the parts every answer is checked to be 
 to be what `woolyard_sheet` says of the whole.
 
 Each state is answered as its line ends, which reading the whole does not do. The states of the sheet of ten-digit
-numbers, {bytes} bytes, are all refused by 22 at once, so that it is the reading which is compared. It is one part of
+numbers, {bytes} bytes, are all refused by 22 at once, so that little but the reading is compared. It is one part of
 65,536 bytes, and that is judged.
 
 "
@@ -230,9 +230,9 @@ fn write_about_bars(out: &mut Formatter) -> Result {
         "
 A call for one side has less to work out than the whole call, by a density where there are two, so it may
 not take longer. As that is little, the two are compared round by round, and the median of the ratios is
-judged; so are writing a sheet or taking it in parts and reading it. The other ratios are of the median rounds,
-the last of user times. That last one says little: the second implementation scans the whole grid for each
-state, since it is to be plain and not quick, and almost any search beats that.
+judged; so are a sheet that is written or comes in one part and the same one read. The other ratios are of the
+median rounds, the last of user times. That last one says little: the second implementation scans the whole
+grid for each state, since it is to be plain and not quick, and almost any search beats that.
 "
     )
 }

@@ -14,7 +14,7 @@ use woolyard::{SECTION_MOST_STATES, SHEET_MOST_BYTES};
 /// How many bytes a part has: a key that is pressed, about a line, a packet of a network, and as many as a sheet may have.
 pub const SIZES: [usize; 4] = [1, 16, 1500, SHEET_MOST_BYTES];
 
-/// Of a sheet whose states are refused at once, so that it is the reading which is timed; and of one whose states are all
+/// Of a sheet whose states are refused at once, so that little but the reading is timed; and of one whose states are all
 /// accepted.
 pub struct InParts {
     pub refused: OfSheet,
