@@ -14,21 +14,27 @@ use woolyard::{SECTION_MOST_STATES, SHEET_MOST_BYTES};
 /// How many bytes a part has: a key that is pressed, about a line, a packet of a network, and as many as a sheet may have.
 pub const SIZES: [usize; 4] = [1, 16, 1500, SHEET_MOST_BYTES];
 
-/// Of a sheet whose states are refused at once, so that little but the reading is timed; and of one whose states are all
-/// accepted.
+/// Of a sheet whose states are refused at once, so that little but the reading is timed, beside reading it; and of one whose
+/// states are all accepted, beside reading it and then asking for each state. What is left of that little is told by the
+/// first sheet in one part beside what the second is timed beside.
 pub struct InParts {
     pub refused: OfSheet,
     pub accepted: OfSheet,
+    pub refused_beside_asked: Beside,
 }
 
-/// Nanoseconds per sheet, whole and for each size of its parts, and these beside the whole, round by round; and how many
-/// state lines and bytes the sheet has.
+/// For each size of its parts; and how many state lines and bytes the sheet has.
 pub struct OfSheet {
-    pub whole: Timing,
-    pub in_parts: [Timing; SIZES.len()],
-    pub beside_whole: [f64; SIZES.len()],
+    pub sizes: [Beside; SIZES.len()],
     pub state_lines: usize,
     pub bytes: usize,
+}
+
+/// Nanoseconds per sheet, whole and in parts of one size, and the ratio of the two, round by round.
+pub struct Beside {
+    pub whole: Timing,
+    pub in_parts: Timing,
+    pub ratio: f64,
 }
 
 impl InParts {
@@ -37,14 +43,17 @@ impl InParts {
         let refused = Sheet::of(wide_states());
         let accepted = Sheet::of(full_sections(states));
         InParts {
-            refused: refused.measure(22, reads(&refused.bytes)),
-            accepted: accepted.measure(0, accepted.read_and_answered()),
+            refused: refused.measure(22, || reads(&refused.bytes)),
+            accepted: accepted.measure(0, || accepted.read_and_asked()),
+            refused_beside_asked: refused.beside(refused.read_and_asked(), SHEET_MOST_BYTES),
         }
     }
+}
 
-    /// In one part beside the whole.
-    pub fn one_part_beside_whole(&self) -> f64 {
-        let [.., one_part] = self.refused.beside_whole;
+impl OfSheet {
+    /// The sheet in one part.
+    pub fn one_part(&self) -> &Beside {
+        let [.., one_part] = &self.sizes;
         one_part
     }
 }
@@ -72,18 +81,26 @@ impl Sheet {
     }
 
     /// Every state must have a reply of this number.
-    fn measure(&self, number: u64, whole: Pass) -> OfSheet {
-        for size in SIZES {
+    fn measure<'a>(&'a self, number: u64, whole: impl Fn() -> Pass<'a>) -> OfSheet {
+        let sizes = SIZES.map(|size| {
             self.assert_answered(number, size);
-        }
-        let [key, line, packet, one_part] = SIZES.map(|size| self.taken(size));
-        let [whole, in_parts @ ..] = interleaved([whole, key, line, packet, one_part]);
+            self.beside(whole(), size)
+        });
         OfSheet {
-            beside_whole: in_parts.each_ref().map(|rounds| beside(rounds, &whole)),
-            in_parts: in_parts.map(timing),
-            whole: timing(whole),
+            sizes,
             state_lines: self.states.len(),
             bytes: self.bytes.len(),
+        }
+    }
+
+    /// In rounds of the two alone: behind parts of one byte the whole takes a fifth longer than behind one part of all, and
+    /// so would flatter that if all sizes had rounds in common.
+    fn beside(&self, whole: Pass, size: usize) -> Beside {
+        let [whole, in_parts] = interleaved([whole, self.taken(size)]);
+        Beside {
+            ratio: beside(&in_parts, &whole),
+            whole: timing(whole),
+            in_parts: timing(in_parts),
         }
     }
 
@@ -112,7 +129,7 @@ impl Sheet {
     }
 
     /// The whole sheet read, and then one call for each of its states.
-    fn read_and_answered(&self) -> Pass<'_> {
+    fn read_and_asked(&self) -> Pass<'_> {
         let mut read = reads(&self.bytes);
         let mut answer = calls(&self.states, proved::state);
         let count = self.states.len() as f64;

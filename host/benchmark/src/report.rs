@@ -100,7 +100,7 @@ impl Report {
             ),
             bar(
                 "taking a sheet in a part of 65,536 bytes / reading it",
-                self.in_parts.one_part_beside_whole(),
+                self.in_parts.refused.one_part().ratio,
                 1.0,
                 1.3,
             ),
@@ -291,32 +291,31 @@ impl Report {
     }
 }
 
-/// A sheet in parts, beside what is done with the whole.
+/// A sheet in parts, beside what is done with the whole. That has a row as it was beside one part, and for each size its
+/// median round there.
 pub fn write_parts(out: &mut Formatter, whole: &str, sheet: &OfSheet) -> Result {
     writeln!(
         out,
-        "| what | median round | quickest round | bytes a second | beside the whole |"
+        "| what | median round | quickest round | bytes a second | the whole meanwhile | beside the whole |"
     )?;
-    writeln!(out, "|---|---:|---:|---:|---:|")?;
-    let mut write_row = |what: &str, timing: Timing, ratio: f64| {
+    writeln!(out, "|---|---:|---:|---:|---:|---:|")?;
+    let mut write_row = |what: &str, timing: Timing, whole: Timing, ratio: f64| {
         let a_second = grouped((1e9 * sheet.bytes as f64 / timing.median).round() as usize);
-        let [median, quickest] = [timing.median, timing.quickest].map(|time| time / 1e3);
+        let times = [timing.median, timing.quickest, whole.median];
+        let [median, quickest, whole] = times.map(|time| time / 1e3);
         writeln!(
             out,
-            "| {what} | {median:.1} | {quickest:.1} | {a_second} | {ratio:.3} |"
+            "| {what} | {median:.1} | {quickest:.1} | {a_second} | {whole:.1} | {ratio:.3} |"
         )
     };
-    write_row(whole, sheet.whole, 1.0)?;
-    for ((size, timing), ratio) in SIZES
-        .into_iter()
-        .zip(sheet.in_parts)
-        .zip(sheet.beside_whole)
-    {
+    let alone = sheet.one_part().whole;
+    write_row(whole, alone, alone, 1.0)?;
+    for (size, beside) in SIZES.into_iter().zip(&sheet.sizes) {
         let what = match size {
             1 => "in parts of 1 byte, `woolyard_parts_take`".to_string(),
             _ => format!("in parts of {} bytes", grouped(size)),
         };
-        write_row(&what, timing, ratio)?;
+        write_row(&what, beside.in_parts, beside.whole, beside.ratio)?;
     }
     Ok(())
 }
