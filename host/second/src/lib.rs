@@ -2,6 +2,7 @@
 //! alone and in the plainest way: what the proved crates answer is compared with it. It shares no code
 //! with them.
 
+pub mod arrival;
 pub mod band;
 #[cfg(test)]
 mod cases;

@@ -26,7 +26,7 @@ pub const EXAMPLE: &[u8] = b"1
 ";
 
 /// The byte that ends a line.
-const LINE_END: u8 = 10;
+pub const LINE_END: u8 = 10;
 
 /// A state line as written, in range or not.
 #[derive(Clone, Copy, Debug, PartialEq, Eq)]
@@ -114,12 +114,12 @@ fn badly_formed(sheet: &[u8], place: usize) -> Refusal<'_> {
 }
 
 /// One number, not too large.
-fn count_line(line: &[u8]) -> Option<u64> {
+pub fn count_line(line: &[u8]) -> Option<u64> {
     number(line).filter(|&count| count <= LARGEST_COUNT)
 }
 
 /// Two numbers with one space between: a second space would make a third word, be it an empty one.
-fn state_line(line: &[u8]) -> Option<[u64; 2]> {
+pub fn state_line(line: &[u8]) -> Option<[u64; 2]> {
     let words: Vec<&[u8]> = line.split(|&byte| byte == b' ').collect();
     let [millikelvin, pascals] = words[..] else {
         return None;
