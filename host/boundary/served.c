@@ -12,7 +12,10 @@ long write(int file, const void *bytes, unsigned long length);
  * reply's number takes the place of the function's. */
 enum { FUNCTION, FIRST, SECOND, THIRD, FOURTH, FIFTH, SIXTH, LENGTH, LENT_NUMBERS, LENT_BYTES, PLACES, LENT = PLACES + 5 };
 
-enum { STATE, STATE_WITH_BOOK, SIDE, SIDE_WITH_BOOK, WALK, BAND, CLAIMS, HEAT, HEAT_TABLE, VISCOSITY, SHEET, SHEET_LINE, WRITE_SHEET };
+enum {
+    STATE, STATE_WITH_BOOK, SIDE, SIDE_WITH_BOOK, WALK, BAND, CLAIMS, HEAT, HEAT_TABLE, VISCOSITY, SHEET, SHEET_LINE,
+    PARTS_TAKE, PARTS_END, WRITE_SHEET
+};
 
 #define WORDS 524288
 
@@ -49,6 +52,14 @@ static uint64_t write_sheet(uint64_t *call, uint8_t *buffer)
     return woolyard_write_sheet(lists, call[FIRST], lists + room, call[SECOND], lists + 2 * room, call[THIRD],
                                 lists + 3 * room, call[FOURTH], lists + 4 * room, call[FIFTH], lists + 5 * room,
                                 call[SIXTH], buffer, call[LENGTH], call + PLACES);
+}
+
+/* Two lists are lent: what is kept between two parts, and the places of the answer. */
+static uint64_t parts_take(uint64_t *call, const uint8_t *part)
+{
+    uint64_t *parts = call + LENT;
+    uint64_t *answer = parts + call[LENT_NUMBERS] / 2;
+    return woolyard_parts_take(parts, part, call[LENGTH], call + PLACES, answer);
 }
 
 /* How many words a call takes, with what it lends. */
@@ -89,6 +100,10 @@ static uint64_t make(size_t word)
         return woolyard_sheet(lent, call[LENGTH], call + PLACES);
     case SHEET_LINE:
         return woolyard_sheet_line(lent, call[LENGTH], call[FIRST], call + PLACES);
+    case PARTS_TAKE:
+        return parts_take(call, lent);
+    case PARTS_END:
+        return woolyard_parts_end(call + LENT, call + PLACES);
     default:
         return write_sheet(call, lent);
     }

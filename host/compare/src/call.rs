@@ -1,5 +1,6 @@
 //! A call of one of the header's functions: all that goes in, and all that the function may write.
 
+use second::arrival::Arrival;
 use second::writer::{OwnLists, LISTS};
 use std::fmt;
 
@@ -18,11 +19,13 @@ pub enum Function {
     Viscosity = 9,
     Sheet = 10,
     SheetLine = 11,
-    WriteSheet = 12,
+    PartsTake = 12,
+    PartsEnd = 13,
+    WriteSheet = 14,
 }
 
 /// The names in the header, in the order of the numbers.
-pub const NAMES: [&str; 13] = [
+pub const NAMES: [&str; 15] = [
     "woolyard_state",
     "woolyard_state_with_book",
     "woolyard_side",
@@ -35,6 +38,8 @@ pub const NAMES: [&str; 13] = [
     "woolyard_viscosity",
     "woolyard_sheet",
     "woolyard_sheet_line",
+    "woolyard_parts_take",
+    "woolyard_parts_end",
     "woolyard_write_sheet",
 ];
 
@@ -54,7 +59,17 @@ const SHEET: [&str; LISTS] = [
     "nitrogen pascals",
 ];
 
-/// Lies behind the last number of each of those lists, where the function is not to look: it would be refused.
+/// How many numbers the archive keeps between two parts of a sheet, and how many are told of a state line.
+pub const PARTS: usize = 8;
+pub const LINE: usize = 9;
+
+/// What a call lends of a sheet that arrives in parts, each with room for so many numbers, of which the last are not the
+/// function's.
+const ARRIVING: [&str; 2] = ["parts", "answer"];
+pub const ARRIVING_ROOM: usize = 10;
+
+/// Lies behind the last number of each list of a sheet to be written, where the function is not to look: it would be
+/// refused.
 const BEHIND: u64 = u64::MAX;
 
 /// So many bytes lie behind the buffer, more than the widest line has.
@@ -81,6 +96,9 @@ pub struct Call {
     /// The lists with room for as many numbers each, one behind the other. The function is told of so many of each
     /// as the arguments say.
     pub lists: Vec<u64>,
+    /// What the second implementation keeps of a sheet that arrives in parts; the archive keeps it in the first of the
+    /// numbers that are lent. None where these are any numbers, of which the second implementation can say nothing.
+    pub arrival: Option<Box<Arrival>>,
     /// The reply's number.
     pub number: u64,
 }
@@ -98,6 +116,7 @@ impl Call {
             sheet: Vec::new(),
             length: 0,
             lists: Vec::new(),
+            arrival: None,
             number: NOT_YET_MADE,
         }
     }
@@ -189,6 +208,30 @@ impl Call {
         }
     }
 
+    /// The first `length` bytes of `part` are the part. The numbers behind those that are kept are the comparison's to say.
+    pub fn parts_take(kept: &Kept, part: &[u8], length: usize) -> Call {
+        Call {
+            sheet: part.to_vec(),
+            length,
+            ..Call::of_kept(Function::PartsTake, kept, ARRIVING.len())
+        }
+    }
+
+    pub fn parts_end(kept: &Kept) -> Call {
+        Call::of_kept(Function::PartsEnd, kept, 1)
+    }
+
+    /// With so many lists, of which what is kept is the first.
+    fn of_kept(function: Function, kept: &Kept, lists: usize) -> Call {
+        let mut numbers = kept.parts.to_vec();
+        numbers.resize(lists * ARRIVING_ROOM, 0);
+        Call {
+            lists: numbers,
+            arrival: kept.arrival.clone(),
+            ..Call::new(function, [])
+        }
+    }
+
     /// The function is told of so many bytes of the buffer. What they hold is the comparison's to say.
     pub fn write_sheet(lists: &OwnLists, length: usize) -> Call {
         let lengths = lists.each_ref().map(Vec::len);
@@ -203,6 +246,32 @@ impl Call {
             length,
             lists: lists.each_ref().map(filled_up).concat(),
             ..Call::new(Function::WriteSheet, lengths.map(|length| length as u64))
+        }
+    }
+}
+
+/// What is kept of a sheet between two of its parts, by the archive and by the second implementation, as a call has it.
+#[derive(Clone, Default)]
+pub struct Kept {
+    pub parts: [u64; PARTS],
+    pub arrival: Option<Box<Arrival>>,
+}
+
+impl Kept {
+    /// Before the first byte.
+    pub fn nothing() -> Kept {
+        Kept {
+            arrival: Some(Box::default()),
+            ..Kept::default()
+        }
+    }
+
+    /// As a call left it.
+    pub fn after(call: Call) -> Kept {
+        let parts = call.lists.first_chunk();
+        Kept {
+            parts: *parts.expect("a call that lends what is kept"),
+            arrival: call.arrival,
         }
     }
 }
@@ -241,6 +310,11 @@ impl fmt::Display for Call {
             Function::Sheet | Function::SheetLine => {
                 write!(text, ", sheet \"{}\"", self.sheet.escape_ascii())
             }
+            Function::PartsTake => {
+                self.write_lists(text, &ARRIVING)?;
+                write!(text, ", part \"{}\"", self.sheet.escape_ascii())
+            }
+            Function::PartsEnd => self.write_lists(text, &ARRIVING[..1]),
             Function::WriteSheet => {
                 self.write_lists(text, &SHEET)?;
                 write!(text, ", buffer \"{}\"", self.sheet.escape_ascii())
@@ -250,6 +324,28 @@ impl fmt::Display for Call {
 }
 
 impl Call {
+    /// Takes over from the same call, as the archive made it, what the second implementation can't say: the numbers that
+    /// the archive keeps, and where they were any numbers all that the function may write.
+    pub fn take_over_kept(&mut self, archive: &Call) {
+        let any_numbers = self.arrival.is_none();
+        match self.function {
+            Function::PartsTake => {
+                self.lists[..PARTS].copy_from_slice(&archive.lists[..PARTS]);
+                if any_numbers {
+                    self.number = archive.number;
+                    self.places[0] = archive.places[0];
+                    let line = ARRIVING_ROOM..ARRIVING_ROOM + LINE;
+                    self.lists[line.clone()].copy_from_slice(&archive.lists[line]);
+                }
+            }
+            Function::PartsEnd if any_numbers => {
+                self.number = archive.number;
+                self.places[..2].copy_from_slice(&archive.places[..2]);
+            }
+            _ => (),
+        }
+    }
+
     /// How many bytes the book, the sheet and the lists take.
     pub fn lent_bytes(&self) -> usize {
         self.book.len() + self.sheet.len() + size_of_val(&self.lists[..])
@@ -262,6 +358,13 @@ impl Call {
             write!(text, ", {name} {:?}", &self.lists[which * room..][..room])?;
         }
         Ok(())
+    }
+
+    /// What came before of a sheet that arrives in parts.
+    fn behind(&self) -> String {
+        let any = "any numbers".to_string();
+        let told = self.arrival.as_ref().map(|arrival| format!("{arrival:?}"));
+        told.unwrap_or(any)
     }
 
     /// The arguments with their names.
@@ -284,6 +387,8 @@ impl Call {
             Function::Viscosity => format!("thousandths {first}"),
             Function::Sheet => format!("length {length}"),
             Function::SheetLine => format!("length {length}, k {first}"),
+            Function::PartsTake => format!("length {length}, behind {}", self.behind()),
+            Function::PartsEnd => format!("behind {}", self.behind()),
             Function::WriteSheet => {
                 format!("lengths {:?}, buffer length {length}", self.arguments)
             }

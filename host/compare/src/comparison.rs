@@ -1,12 +1,13 @@
 //! Asks the archive and the second implementation the same, and stops at the first difference.
 
 use crate::boundary::Boundary;
-use crate::call::{Call, Function};
+use crate::call::{Call, Function, PARTS};
 use crate::second_side::Second;
 use crate::tally::Tally;
 use second::heat::NOT_NUMBERS;
 use second::random::Random;
 use std::io;
+use std::mem;
 
 /// The first difference in one line, or why there was no answer.
 pub type Outcome = Result<(), String>;
@@ -20,9 +21,26 @@ pub struct Comparison {
     archive: Box<dyn Boundary>,
     second: Second,
     junk: Random,
-    waiting: Vec<Call>,
-    lent_bytes: usize,
+    waiting: Batch,
     pub tally: Tally,
+}
+
+/// Calls that are asked together.
+#[derive(Default)]
+struct Batch {
+    calls: Vec<Call>,
+    lent_bytes: usize,
+}
+
+impl Batch {
+    fn add(&mut self, call: Call) {
+        self.lent_bytes += call.lent_bytes();
+        self.calls.push(call);
+    }
+
+    fn is_full(&self) -> bool {
+        self.calls.len() >= MOST_CALLS || self.lent_bytes >= MOST_LENT_BYTES
+    }
 }
 
 impl Comparison {
@@ -31,8 +49,7 @@ impl Comparison {
             archive,
             second: Second::default(),
             junk: Random(0),
-            waiting: Vec::new(),
-            lent_bytes: 0,
+            waiting: Batch::default(),
             tally: Tally::default(),
         }
     }
@@ -46,9 +63,8 @@ impl Comparison {
     /// Has this call compared, at once or by the next `settle`.
     pub fn ask(&mut self, call: Call) -> Outcome {
         let question = self.question(call);
-        self.lent_bytes += question.lent_bytes();
-        self.waiting.push(question);
-        if self.waiting.len() >= MOST_CALLS || self.lent_bytes >= MOST_LENT_BYTES {
+        self.waiting.add(question);
+        if self.waiting.is_full() {
             return self.settle();
         }
         Ok(())
@@ -59,17 +75,37 @@ impl Comparison {
         &mut self,
         calls: [Call; COUNT],
     ) -> Result<[Call; COUNT], String> {
-        let questions = calls.map(|call| self.question(call));
-        let answers = self.compared(&questions)?;
+        let answers = self.all_answers(calls)?;
         Ok(answers.try_into().expect("an answer to each"))
     }
 
-    /// The places are filled with junk, and so is a buffer, so that one which should be written and is not shows, and
-    /// one that should not be and is.
+    /// The same of any number of calls, of which no more are asked at once than could wait.
+    pub fn all_answers(
+        &mut self,
+        calls: impl IntoIterator<Item = Call>,
+    ) -> Result<Vec<Call>, String> {
+        let mut answers = Vec::new();
+        let mut batch = Batch::default();
+        for call in calls {
+            batch.add(self.question(call));
+            if batch.is_full() {
+                answers.extend(self.compared(&mem::take(&mut batch).calls)?);
+            }
+        }
+        answers.extend(self.compared(&batch.calls)?);
+        Ok(answers)
+    }
+
+    /// The places are filled with junk, and so are a buffer and what is lent behind the numbers that are kept of a sheet,
+    /// so that one which should be written and is not shows, and one that should not be and is.
     fn question(&mut self, mut call: Call) -> Call {
         call.places = [(); 5].map(|()| self.junk());
-        if call.function == Function::WriteSheet {
-            call.sheet.fill_with(|| self.junk.number() as u8);
+        match call.function {
+            Function::WriteSheet => call.sheet.fill_with(|| self.junk.number() as u8),
+            Function::PartsTake | Function::PartsEnd => {
+                call.lists[PARTS..].fill_with(|| self.junk());
+            }
+            _ => (),
         }
         self.tally.count(call.function);
         call
@@ -88,17 +124,19 @@ impl Comparison {
 
     /// Compares all that waits.
     pub fn settle(&mut self) -> Outcome {
-        let questions = std::mem::take(&mut self.waiting);
-        self.lent_bytes = 0;
+        let questions = mem::take(&mut self.waiting).calls;
         self.compared(&questions).map(drop)
     }
 
-    /// What the archive made of them, which is what the second implementation did.
+    /// What the archive made of them, which is what the second implementation did. Of a sheet that arrives in parts each
+    /// keeps its own, and both come back.
     fn compared(&mut self, questions: &[Call]) -> Result<Vec<Call>, String> {
-        let archive = made(self.archive.as_mut(), questions)
+        let mut archive = made(self.archive.as_mut(), questions)
             .map_err(|error| format!("the archive gives no answer: {error}"))?;
         let second = made(&mut self.second, questions).map_err(|error| error.to_string())?;
-        for ((question, archive), second) in questions.iter().zip(&archive).zip(second) {
+        for ((question, archive), mut second) in questions.iter().zip(&mut archive).zip(second) {
+            second.take_over_kept(archive);
+            archive.arrival.clone_from(&second.arrival);
             if *archive != second {
                 return Err(format!(
                     "{question}: the archive answers {archive}; the second implementation {second}"
@@ -123,6 +161,7 @@ fn made(boundary: &mut dyn Boundary, questions: &[Call]) -> io::Result<Vec<Call>
 #[cfg(test)]
 mod tests {
     use super::*;
+    use crate::call::Kept;
     use second::sheet::TEN_NINES;
     use second::state::bytes_of_slot;
     use second::writer::OwnLists;
@@ -157,6 +196,8 @@ mod tests {
             Call::heat_table(41_500),
             Call::viscosity(1000),
             Call::sheet(b"0\n0\n0\n0", 6),
+            Call::parts_take(&Kept::nothing(), b"0\n0\n0\n0", 6),
+            Call::parts_end(&Kept::nothing()),
             Call::write_sheet(&OwnLists::default(), 6),
             Call::side_with_book(state, 1, 63, &[7; 195], 192),
             Call::state_with_book(state, 63, &[7; 195], 192),
@@ -338,6 +379,95 @@ mod tests {
                 assert!(difference.contains(", hydrogen millikelvin [1, "));
             }
         }
+    }
+
+    fn assert_told_of(call: &Call, told: &str, changes: &[fn(&mut Call)]) {
+        let call = || vec![call.clone()];
+        assert_eq!(outcome(call(), |_| ()), Ok(()));
+        for &change in changes {
+            let difference = outcome(call(), change).expect_err("a difference");
+            assert!(difference.contains(told), "{difference}");
+        }
+    }
+
+    /// Behind the numbers that are kept, behind the answer, in a place that the call does not have, in the part and
+    /// behind it.
+    const BESIDE_A_PART: [fn(&mut Call); 6] = [
+        |call| call.lists[8] ^= 1,
+        |call| call.lists[9] ^= 1,
+        |call| call.lists[19] ^= 1,
+        |call| call.places[1] ^= 1,
+        |call| call.sheet[0] ^= 1,
+        |call| *call.sheet.last_mut().expect("what lies behind") ^= 1,
+    ];
+
+    /// Of a part in which a state line ends, of one that is used up, and of one in which a fault is met: in the number, in
+    /// how much is taken, and in the answer. The numbers that the archive keeps are its own.
+    #[test]
+    fn differences_of_a_part() {
+        let changes: [fn(&mut Call); 4] = [
+            |call| call.number ^= 16,
+            |call| call.places[0] += 1,
+            |call| call.lists[10] += 1,
+            |call| call.lists[18] += 1,
+        ];
+        for (part, length, told) in [
+            (b"1\n300000 1000000\n0\n", 19, "0 and [17, "),
+            (b"1\n300000 1000000\n0\n", 16, "16 and [16, "),
+            (b"1\n300000 1000000 \n0", 19, "6 and [19, "),
+        ] {
+            let call = Call::parts_take(&Kept::nothing(), part, length);
+            let told = format!("; the second implementation {told}");
+            assert_told_of(&call, &told, &[&changes[..], &BESIDE_A_PART].concat());
+            assert_eq!(outcome(vec![call], |call| call.lists[..8].fill(7)), Ok(()));
+        }
+    }
+
+    /// Of a good sheet's end and of one that lacks a line: in the number, in what is read, in a place that the call
+    /// does not have, in the numbers that are kept, and behind them.
+    #[test]
+    fn differences_of_the_end_of_a_sheet() {
+        let changes: [fn(&mut Call); 7] = [
+            |call| call.number ^= 6,
+            |call| call.places[0] += 1,
+            |call| call.places[1] += 1,
+            |call| call.places[2] ^= 1,
+            |call| call.lists[0] ^= 1,
+            |call| call.lists[7] ^= 1,
+            |call| call.lists[8] ^= 1,
+        ];
+        for (sheet, told) in [
+            (&b"0\n0\n0\n"[..], "0 and [0, 0, "),
+            (b"0\n0\n", "6 and [0, 4, "),
+        ] {
+            let mut kept = Kept::nothing();
+            let arrival = kept.arrival.as_mut().expect("nothing yet");
+            assert_eq!(arrival.take(sheet), (sheet.len(), Err(16)));
+            assert_told_of(&Call::parts_end(&kept), told, &changes);
+        }
+    }
+
+    /// Of any numbers all that the functions may write is the archive's to say, and nothing else.
+    #[test]
+    fn differences_with_any_numbers() {
+        let any = Kept {
+            parts: [7; 8],
+            arrival: None,
+        };
+        let take = || vec![Call::parts_take(&any, b"0\n0\n", 3)];
+        let written = |call: &mut Call| {
+            call.lists[..8].fill(1);
+            call.lists[10..19].fill(2);
+            [call.number, call.places[0]] = [3, 4];
+        };
+        assert_eq!(outcome(take(), written), Ok(()));
+        for change in BESIDE_A_PART {
+            assert!(outcome(take(), change).is_err());
+        }
+        let end = || vec![Call::parts_end(&any)];
+        assert_eq!(outcome(end(), |call| call.places[..2].fill(1)), Ok(()));
+        assert!(outcome(end(), |call| call.places[2] ^= 1).is_err());
+        assert!(outcome(end(), |call| call.lists[0] ^= 1).is_err());
     }
 
     /// Of an answer of the heat table, of a factor, and of those that are refused: in the number, in the one

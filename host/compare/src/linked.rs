@@ -1,7 +1,7 @@
 //! The archive, linked into this program.
 
 use crate::boundary::Boundary;
-use crate::call::{told_lists, Call, Function};
+use crate::call::{told_lists, Call, Function, ARRIVING_ROOM};
 use std::io;
 use woolyard::boundary;
 
@@ -47,6 +47,16 @@ fn make(call: &mut Call) {
             let sheet = &call.sheet[..call.length];
             boundary::sheet_line(sheet, first, first_of(&mut call.places))
         }
+        Function::PartsTake => {
+            let (parts, answer) = call.lists.split_at_mut(ARRIVING_ROOM);
+            let part = &call.sheet[..call.length];
+            let taken = &mut call.places[0];
+            boundary::parts_take(first_of(parts), part, taken, first_of(answer))
+        }
+        Function::PartsEnd => {
+            let parts = first_of(&mut call.lists);
+            boundary::parts_end(parts, first_of(&mut call.places))
+        }
         Function::WriteSheet => {
             let lists = told_lists(&call.lists, call.arguments);
             let buffer = &mut call.sheet[..call.length];
@@ -62,7 +72,7 @@ fn heat(kelvin_pattern: u64, place: &mut u64) -> u64 {
     number
 }
 
-/// As many of the places as the function has.
-fn first_of<const COUNT: usize>(places: &mut [u64; 5]) -> &mut [u64; COUNT] {
-    places.first_chunk_mut().expect("no more than five")
+/// As many of the places, or of the numbers that are lent, as the function has.
+fn first_of<const COUNT: usize>(places: &mut [u64]) -> &mut [u64; COUNT] {
+    places.first_chunk_mut().expect("no more than there are")
 }

@@ -1,11 +1,14 @@
 //! What is compared, in pieces that the workers share out.
 
+mod any_numbers;
+mod arrivals;
 mod bands;
 mod books;
 mod claim_lists;
 mod claims;
 mod doubles;
 mod heat_table;
+mod journeys;
 mod sheets;
 mod sides;
 mod split;
@@ -60,6 +63,8 @@ pub fn units() -> Vec<Unit> {
     units.extend(sheets::units());
     units.extend(writes::units());
     units.extend(written_again::units());
+    units.extend(arrivals::units());
+    units.extend(any_numbers::units());
     units.extend(sides::units());
     units.extend(books::units());
     units.extend(walks::units());
@@ -117,7 +122,11 @@ fn combinations<const COUNT: usize>(of: &[usize]) -> impl Iterator<Item = [usize
 
 fn of_all_magnitudes(count: usize, seed: u64) -> impl Iterator<Item = u64> {
     let mut random = Random(seed);
-    (0..count).map(move |_| random.number() >> (random.number() % 64))
+    (0..count).map(move |_| of_any_magnitude(&mut random))
+}
+
+fn of_any_magnitude(random: &mut Random) -> u64 {
+    random.number() >> (random.number() % 64)
 }
 
 fn unit(

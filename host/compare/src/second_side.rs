@@ -1,12 +1,13 @@
 //! The second implementation, asked as the archive is.
 
 use crate::boundary::Boundary;
-use crate::call::{told_lists, Call, Function};
+use crate::call::{told_lists, Call, Function, ARRIVING_ROOM, LINE};
+use second::arrival::{Arrival, Fault};
 use second::band::{BandReply, Scaled};
 use second::claims::claims_reply_by;
 use second::heat::heat_capacity;
 use second::heat_table::tabled_heat_capacity;
-use second::sheet::{self, Refusal};
+use second::sheet::{self, Refusal, State};
 use second::state::{put_into_book, put_side_into_book, reply, side_of, Reply, SideReply};
 use second::viscosity::excess_factor;
 use second::walk::{limited, walk_reply, WalkReply};
@@ -42,6 +43,8 @@ impl Boundary for Second {
                 Function::Viscosity => write_figure(call, excess_factor(call.arguments[0])),
                 Function::Sheet => whole_sheet(call),
                 Function::SheetLine => sheet_line(call),
+                Function::PartsTake => self.parts_take(call),
+                Function::PartsEnd => parts_end(call),
                 Function::WriteSheet => write_sheet(call),
             }
         }
@@ -128,6 +131,40 @@ impl Second {
         call.number = reply.number;
         call.places[0] = reply.claim;
     }
+
+    /// Of any numbers nothing is said.
+    fn parts_take(&mut self, call: &mut Call) {
+        let Some(arrival) = &mut call.arrival else {
+            return;
+        };
+        let (taken, told) = arrival.take(&call.sheet[..call.length]);
+        let (number, answer) = match told {
+            Ok(state) => (0, self.line(state)),
+            Err(number) => (number, [0; LINE]),
+        };
+        call.number = number;
+        call.places[0] = taken as u64;
+        call.lists[ARRIVING_ROOM..][..LINE].copy_from_slice(&answer);
+    }
+
+    /// A state as written, and the reply to it.
+    fn line(&mut self, state: State) -> [u64; LINE] {
+        let state = [state.fluid, state.millikelvin, state.pascals];
+        let reply = self.reply(state);
+        let [fluid, millikelvin, pascals] = state;
+        let [kind, gas_root, dense_root, gas_density, dense_density] = reply.figures();
+        [
+            fluid,
+            millikelvin,
+            pascals,
+            reply.number,
+            kind,
+            gas_root,
+            dense_root,
+            gas_density,
+            dense_density,
+        ]
+    }
 }
 
 fn write_reply(call: &mut Call, reply: Reply) {
@@ -185,6 +222,19 @@ fn sheet_line(call: &mut Call) {
     };
     call.number = number;
     call.places[..3].copy_from_slice(&state);
+}
+
+/// As for `parts_take`.
+fn parts_end(call: &mut Call) {
+    let Some(told) = call.arrival.as_deref().map(Arrival::end) else {
+        return;
+    };
+    let (number, reading) = match told {
+        Ok(states) => (0, [states, 0]),
+        Err(Fault { number, place }) => (number, [0, place as u64]),
+    };
+    call.number = number;
+    call.places[..2].copy_from_slice(&reading);
 }
 
 fn write_sheet(call: &mut Call) {

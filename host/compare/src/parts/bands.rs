@@ -4,7 +4,7 @@
 
 use super::split::{around, below_critical, changes, last_before_change};
 use super::states::{all_ends, any_state, FLUID_NUMBERS};
-use super::{spread_over, unit, FLUIDS, WORKED};
+use super::{of_any_magnitude, spread_over, unit, FLUIDS, WORKED};
 use crate::call::Call;
 use crate::comparison::{Comparison, Outcome};
 use crate::workers::Unit;
@@ -104,7 +104,7 @@ fn any_scalings(comparison: &mut Comparison, state: [u64; 3]) -> Outcome {
         ask(comparison, state, bands.chain([[far, far]]))?;
     }
     let mut random = Random(state[1] ^ state[2]);
-    let mut any = || random.number() >> (random.number() % 64);
+    let mut any = || of_any_magnitude(&mut random);
     let bands: Vec<[u64; 2]> = (0..OF_ALL_MAGNITUDES).map(|_| [any(), any()]).collect();
     ask(comparison, state, bands)
 }

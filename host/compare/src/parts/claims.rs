@@ -4,7 +4,7 @@
 
 use super::split::{edges_on, last_before_change, tip};
 use super::states::{all_ends, FLUID_NUMBERS};
-use super::{beside, of_all_magnitudes, spread_over, unit, NO_SIDES, WORKED};
+use super::{beside, of_all_magnitudes, of_any_magnitude, spread_over, unit, NO_SIDES, WORKED};
 use crate::call::Call;
 use crate::comparison::{Comparison, Outcome};
 use crate::workers::Unit;
@@ -128,7 +128,7 @@ fn every_root(comparison: &mut Comparison, state: [u64; 3]) -> Outcome {
 /// Roots that could be taken for a side's, for each side; and for a side that is neither one that stands and one that
 /// does not.
 fn near_roots(comparison: &mut Comparison, state: [u64; 3], random: &mut Random) -> Outcome {
-    let any = random.number() >> (random.number() % 64);
+    let any = of_any_magnitude(random);
     let near = roots_beside(comparison, state, &NEAR);
     for root in near.into_iter().chain([0, any, u64::MAX]) {
         for side in [GAS, DENSE] {

@@ -2,7 +2,7 @@
 
 use super::books::{any_book, BEHIND, LENGTHS, SLOTS};
 use super::states::{all_ends, FLUID_NUMBERS};
-use super::{unit, NO_SIDES, WORKED};
+use super::{of_any_magnitude, unit, NO_SIDES, WORKED};
 use crate::call::Call;
 use crate::comparison::{Comparison, Outcome};
 use crate::workers::Unit;
@@ -69,7 +69,7 @@ fn every_side(comparison: &mut Comparison, state: [u64; 3]) -> Outcome {
 fn any_sides(comparison: &mut Comparison, state: [u64; 3]) -> Outcome {
     let mut random = Random(state[1] ^ state[2]);
     for _ in 0..ANY_SIDES {
-        let side = random.number() >> (random.number() % 64);
+        let side = of_any_magnitude(&mut random);
         let slot = random.number() % BOOK_SLOTS as u64;
         let book = any_book(BOOK_BYTES, &mut random);
         comparison.ask(Call::side(state, side))?;

@@ -1,7 +1,7 @@
 //! Sheets to be written: lists of every length, numbers of all magnitudes at every place, buffers with room and
 //! without, sheets as long as one may be, and all that is refused together.
 
-use super::{beside, combinations, unit};
+use super::{beside, combinations, of_any_magnitude, unit};
 use crate::call::Call;
 use crate::comparison::{Comparison, Outcome};
 use crate::workers::Unit;
@@ -288,7 +288,7 @@ fn any_lists(comparison: &mut Comparison, seed: u64) -> Outcome {
         ask(comparison, &lists, &rooms)?;
         let list = &mut lists[random.number() as usize % LISTS];
         if let Some(place) = (random.number() as usize).checked_rem(list.len()) {
-            list[place] = random.number() >> (random.number() % 64);
+            list[place] = of_any_magnitude(&mut random);
         }
         ask(comparison, &lists, &rooms)?;
         let list = &mut lists[random.number() as usize % LISTS];
