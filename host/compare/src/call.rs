@@ -89,12 +89,12 @@ pub struct Call {
     /// What the function fills in, as far as it has so many; the rest must stay as it was.
     pub places: [u64; 5],
     pub book: Vec<u8>,
-    /// The sheet, or the buffer that it is to be written into.
+    /// The sheet, a part of it, or the buffer that it is to be written into.
     pub sheet: Vec<u8>,
-    /// How many bytes of the book, the sheet or the buffer the function is told of. More may lie behind.
+    /// How many bytes of the book, the sheet, its part or the buffer the function is told of. More may lie behind.
     pub length: usize,
     /// The lists with room for as many numbers each, one behind the other. The function is told of so many of each
-    /// as the arguments say.
+    /// as the arguments say; of what is kept of a sheet, and of the answer to a part, it knows how many they are.
     pub lists: Vec<u64>,
     /// What the second implementation keeps of a sheet that arrives in parts; the archive keeps it in the first of the
     /// numbers that are lent. None where these are any numbers, of which the second implementation can say nothing.
