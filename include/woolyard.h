@@ -88,7 +88,7 @@ extern "C" {
 #define WOOLYARD_LINE_FLUID 0
 #define WOOLYARD_LINE_MILLIKELVIN 1
 #define WOOLYARD_LINE_PASCALS 2
-#define WOOLYARD_LINE_NUMBER 3   /* of the reply to the state: 0, 21, 22, 31 or 32 */
+#define WOOLYARD_LINE_NUMBER 3   /* of the reply to the state, as woolyard_state answers it */
 #define WOOLYARD_LINE_FIGURES 4  /* the first of the five */
 
 /* How many bytes a book has, how many a sheet may have, how many states one of its sections, and how many numbers are kept of a sheet

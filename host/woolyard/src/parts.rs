@@ -1,7 +1,7 @@
 //! A sheet that arrives in parts.
 
 use crate::boundary::{self, LINE_NUMBERS, PARTS, PART_USED_UP};
-use crate::{answer, Fault, Fluid, Line, State};
+use crate::{answer, Fault, Line};
 use std::iter::FusedIterator;
 
 /// All that is kept of a sheet between two of its parts: eight numbers, which are zeros before the first byte. They may be
@@ -19,7 +19,7 @@ use std::iter::FusedIterator;
 /// let mut parts = Parts::from(parts.numbers());
 /// for line in parts.take(b"00 500000\n0\n") {
 ///     let line = line?;
-///     assert_eq!((line.state.millikelvin, line.state.pascals), (120_000, 500_000));
+///     assert_eq!((line.millikelvin, line.pascals), (120_000, 500_000));
 ///     assert_eq!(line.reply.map(|answer| answer.gas_root), Ok(92_696));
 /// }
 /// assert_eq!(parts.end(), Ok(1));
@@ -102,12 +102,11 @@ impl Iterator for Lines<'_, '_> {
 impl FusedIterator for Lines<'_, '_> {}
 
 fn line([fluid, millikelvin, pascals, number, figures @ ..]: [u64; LINE_NUMBERS]) -> Line {
+    let reply = answer(number, figures);
     Line {
-        state: State {
-            fluid: Fluid::try_from(fluid).expect("each section is a fluid's"),
-            millikelvin,
-            pascals,
-        },
-        reply: answer(number, figures),
+        fluid,
+        millikelvin,
+        pascals,
+        reply,
     }
 }

@@ -140,11 +140,14 @@ pub struct State {
     pub pascals: u64,
 }
 
-/// A state line of a sheet in parts, and the reply to its state: the figures, or the first of refusals 21, 22, 31 and 32
-/// that applies.
+/// A state line of a sheet in parts as written, and the reply to its state: the figures, or the first of refusals 1, 21, 22,
+/// 31 and 32 that applies, of which 1 comes up only behind numbers that no sheet has left.
 #[derive(Clone, Copy, Debug, PartialEq, Eq, Hash)]
 pub struct Line {
-    pub state: State,
+    /// The number of a [`Fluid`].
+    pub fluid: u64,
+    pub millikelvin: u64,
+    pub pascals: u64,
     pub reply: Result<Answer, Refusal>,
 }
 

@@ -722,7 +722,12 @@ fn in_parts(list: &[&[u8]]) -> (Vec<Line>, Result<u64, Fault>) {
 
 fn line_of(state: State) -> Line {
     let reply = super::state(state.fluid, state.millikelvin, state.pascals);
-    Line { state, reply }
+    Line {
+        fluid: state.fluid.number(),
+        millikelvin: state.millikelvin,
+        pascals: state.pascals,
+        reply,
+    }
 }
 
 /// What `sheet` says of it, without the line.
@@ -894,6 +899,13 @@ fn any_numbers_as_parts() {
             kept.push(numbers);
         }
     }
+    // a state line is wanted in a section that no sheet has
+    let mut beyond = [0; PARTS];
+    beyond[3..5].copy_from_slice(&[5, 1]);
+    let line = Parts::from(beyond).take(b"300000 1000000\n").next();
+    let refused = line.map(|line| line.map(|line| (line.fluid, line.reply)));
+    assert_eq!(refused, Some(Ok((4, Err(Refusal::NoSuchFluid)))));
+    kept.push(beyond);
     for numbers in kept {
         let mut parts = Parts::from(numbers);
         assert_eq!(parts.numbers(), numbers);
