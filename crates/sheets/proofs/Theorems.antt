@@ -1,6 +1,7 @@
 -- What is proved of the definitions: what lists write is read as those very lists, no other lists write to it, a number has one way to be
 -- written, and each step of a reading is fixed. Assumes nothing.
 use mathlib.Core.Path.{_≡_, sym, ap, _∙_}
+use mathlib.Core.Bool.{Bool}
 use mathlib.Core.List.{List}
 use Prim.Native.Nat.{ℕ}
 use native.Mathlib.Omega.{arith}
@@ -13,7 +14,7 @@ use Rattle.sheets.specs.Grammar.{decimal, Writable, Pair, Good, statesFr
 use Rattle.sheets.specs.Numerals.{Numeral, valueOf}
 use Rattle.sheets.specs.Reading.{start, Reads}
 use Rattle.sheets.specs.Digests.{scans}
-use Rattle.sheets.specs.Lines.{met}
+use Rattle.sheets.specs.Lines.{ended, wantsLine, met}
 use Rattle.sheets.proofs.Readable.{good-read}
 use Rattle.sheets.proofs.Once.{sheet-once}
 use Rattle.sheets.proofs.Numerals.{decimal-is-numeral, value-of-decimal, numeral-is-decimal}
@@ -51,3 +52,9 @@ scan-determined place before bytes scanned scanned′ is-scan is-scan′ = is-sc
 
 pub line-at-determined : (sections : ℕ) (bytes : List ℕ) (cursor : Cursor) (line line′ : Line) → line ≡ met sections bytes cursor → line′ ≡ met sections bytes cursor → line ≡ line′
 line-at-determined sections bytes cursor line line′ is-met is-met′ = is-met ∙ sym is-met′
+
+pub ended-line-determined : (sections : ℕ) (cursor : Cursor) (next : ℕ) (digest : Digest) (line line′ : Line) → line ≡ ended sections cursor next digest → line′ ≡ ended sections cursor next digest → line ≡ line′
+ended-line-determined sections cursor next digest line line′ is is′ = is ∙ sym is′
+
+pub wants-line-determined : (sections : ℕ) (cursor : Cursor) (wants wants′ : Bool) → wants ≡ wantsLine sections cursor → wants′ ≡ wantsLine sections cursor → wants ≡ wants′
+wants-line-determined sections cursor wants wants′ is is′ = is ∙ sym is′
