@@ -1,9 +1,9 @@
 -- What a library tells of its reply, laid before the caller, keeps the boundary's promise. Assumes nothing.
 use mathlib.Core.Path.{_≡_, refl, ap, _∙_}
-use mathlib.Core.List.{List, _∷_}
+use mathlib.Core.List.{List, _∷_, []}
 use Prim.Native.Nat.{ℕ}
 use lib.Ieee.{Float}
-use lib.ListN.{length}
+use lib.ListN.{length, getD}
 use Rattle.replies.specs.declared.Reply.{Reply}
 use Rattle.replies.specs.declared.Figures.{Figures}
 use Rattle.replies.specs.Figures.{figuresOf}
@@ -62,10 +62,17 @@ pub line-of-reading : (bytes : List ℕ) (sheet part : ℕ) (line : List ℕ) (r
 line-of-reading bytes sheet part line reply reads-as shows =
     rw (shows .is-line) (ap (λ (f : SheetFigures). length (shown bytes f)) (figures-determined bytes (shows .figures) (sheetFigures reply) (shows .reads-as) reads-as))
 
-pub brought-laid : {brought : Brought} (state : State) (reply : Reply) (told : Figures) {answer : List ℕ} → brought ≡ Brought.State state → Replies (state .fluid) (state .millikelvin) (state .pascals) (figuresOf reply) → told ≡ figuresOf reply → answer ≡ state .fluid ∷ state .millikelvin ∷ state .pascals ∷ told .number ∷ fiveOf told → AnswersBrought brought answer
-brought-laid state reply told is-brought replies is is-answer =
+-- a line's answer, of which each figure was read from where the reply was laid
+pub brought-laid : {brought : Brought} (state : State) (reply : Reply) {number : ℕ} (five : List ℕ) {answer : List ℕ} → brought ≡ Brought.State state → Replies (state .fluid) (state .millikelvin) (state .pascals) (figuresOf reply) → Laid reply number five → answer ≡ state .fluid ∷ state .millikelvin ∷ state .pascals ∷ number ∷ getD five 0 0 ∷ getD five 1 0 ∷ getD five 2 0 ∷ getD five 3 0 ∷ getD five 4 0 ∷ [] → AnswersBrought brought answer
+brought-laid state reply {number} five is-brought replies laid is-answer =
+    let again : _≡_ {A = List ℕ} (getD five 0 0 ∷ getD five 1 0 ∷ getD five 2 0 ∷ getD five 3 0 ∷ getD five 4 0 ∷ []) five = rw (laid .is-figures) refl in
     rw is-brought
-    (record { number = told .number; figures = fiveOf told; answers = record { reply = reply; replies = replies; laid = figures-laid reply told is }; is-answer = is-answer })
+    (record {
+      number = number;
+      figures = five;
+      answers = record { reply = reply; replies = replies; laid = laid };
+      is-answer = is-answer ∙ ap (λ (l : List ℕ). state .fluid ∷ state .millikelvin ∷ state .pascals ∷ number ∷ l) again;
+    })
 
 pub end-laid : {parts reading : List ℕ} {number : ℕ} {reader : Reader} {said : Reading} (told : SheetFigures) → reader ≡ readerOf parts → said ≡ over reader → told ≡ sheetFigures said → number ≡ told .number → reading ≡ twoFiguresOf told → EndAnswers parts number reading
 end-laid {parts} told is-reader is-said is is-number is-reading =

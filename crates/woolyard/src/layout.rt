@@ -54,17 +54,23 @@ pub(crate) fn lay_line(brought: Brought, answer: &mut [u64; 9])
     match brought {
         Brought::State(line) => {
             let reply = state::ask(line.fluid, line.millikelvin, line.pascals);
-            let told = reply.figures();
+            let mut five = [0; 5];
+            let number = lay_figures(reply, &mut five);
+            let kind = five[0];
+            let gas_root = five[1];
+            let dense_root = five[2];
+            let gas_density = five[3];
+            let dense_density = five[4];
             *answer = [
                 line.fluid,
                 line.millikelvin,
                 line.pascals,
-                told.number,
-                told.kind,
-                told.gas_root,
-                told.dense_root,
-                told.gas_density,
-                told.dense_density,
+                number,
+                kind,
+                gas_root,
+                dense_root,
+                gas_density,
+                dense_density,
             ];
         }
         Brought::Nothing => {
