@@ -3,6 +3,7 @@
 ghost use mathlib.Core.Path.{_≡_};
 ghost use lib.ListN.{drop};
 ghost use Rattle.sheets.specs.Digests.{opens, grows, firstOf, secondOf, takes, scans};
+ghost use Rattle.digests.specs.Inside.{Runs, GoesOn};
 use sheets::Digest;
 use sheets::Number;
 use sheets::Scanned;
@@ -86,11 +87,86 @@ fn taken(digest: Digest, byte: u8) -> Digest
     }
 }
 
+// A number with the digits that follow it, and the place behind them.
+struct Run {
+    number: u64,
+    end: usize,
+}
+
+// Takes digits from a place on, as many as the number may have. Here most bytes of a sheet are taken, with nothing
+// asked but whether the number goes on.
+fn take_digits(bytes: &[u8], from: usize, number: u64) -> Run
+    ensures { λ r. ⌜ Runs (now (bytes .entry)) from number r ⌝ }
+{
+    let mut number = number;
+    let mut end = from;
+    while end < bytes.len() {
+        match grown(number, bytes[end]) {
+            Number::None => {
+                return Run { number, end };
+            }
+            Number::Is(more) => {
+                number = more;
+                end += 1;
+            }
+        }
+    }
+    Run { number, end }
+}
+
+// A digest, and the place up to which bytes were taken.
+struct Onward {
+    digest: Digest,
+    end: usize,
+}
+
+// Behind a byte that was taken: where it left a number, the digits that follow are taken at once.
+fn go_on(bytes: &[u8], from: usize, digest: Digest) -> Onward
+    ensures { λ r. ⌜ GoesOn (now (bytes .entry)) from digest r ⌝ }
+{
+    match digest {
+        Digest::Empty => Onward { digest, end: from },
+        Digest::First(number) => {
+            let run = take_digits(bytes, from, number);
+            Onward {
+                digest: Digest::First(run.number),
+                end: run.end,
+            }
+        }
+        Digest::AfterSpace(_) => Onward { digest, end: from },
+        Digest::Second { first, second } => {
+            let run = take_digits(bytes, from, second);
+            Onward {
+                digest: Digest::Second {
+                    first,
+                    second: run.number,
+                },
+                end: run.end,
+            }
+        }
+        Digest::Bad => Onward { digest, end: from },
+    }
+}
+
+// The same digest, made anew case by case: bytes of it that its case does not use are then not copied along, for which
+// the processor would wait.
+fn renewed(digest: Digest) -> Digest
+    ensures { λ r. ⌜ r ≡ digest ⌝ }
+{
+    match digest {
+        Digest::Empty => Digest::Empty,
+        Digest::First(number) => Digest::First(number),
+        Digest::AfterSpace(number) => Digest::AfterSpace(number),
+        Digest::Second { first, second } => Digest::Second { first, second },
+        Digest::Bad => Digest::Bad,
+    }
+}
+
 // Takes bytes from a place on, up to a line's end. The digest before is Empty where the line begins.
 pub fn scan(bytes: &[u8], place: usize, before: Digest) -> Scanned
     ensures { λ r. ⌜ r ≡ scans place before (drop place (now (bytes .entry))) ⌝ }
 {
-    let mut digest = before;
+    let mut digest = renewed(before);
     let mut end = place;
     while end < bytes.len() {
         let byte = bytes[end];
@@ -98,8 +174,10 @@ pub fn scan(bytes: &[u8], place: usize, before: Digest) -> Scanned
             let next = end + 1;
             return Scanned { digest, end, next };
         }
-        digest = taken(digest, byte);
-        end += 1;
+        let longer = taken(digest, byte);
+        let on = go_on(bytes, end + 1, longer);
+        digest = on.digest;
+        end = on.end;
     }
     Scanned {
         digest,

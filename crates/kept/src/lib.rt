@@ -7,7 +7,7 @@ use parts::Standing;
 use sheets::Cursor;
 use sheets::Digest;
 
-// What stage a reader is at: a digest's first four by their own, then its last.
+// The stage of a reader that met no fault is that of its line's digest, which is 0 where nothing came of it.
 const FIRST: u64 = 1;
 
 const AFTER_SPACE: u64 = 2;

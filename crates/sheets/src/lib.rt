@@ -2,10 +2,11 @@
 // and read is defined in specs/, and what follows from that is proved in proofs/; the code that reads one
 // is the crate `reader`.
 
-// A state line: the number of its section's fluid, and its two numbers as written.
+// A state line: the number of its section's fluid, and its two numbers as written. These do not lie side by side: as they
+// do in a digest, the compiler would move both as one, and the processor would wait until both are written.
 pub struct State {
-    pub fluid: u64,
     pub millikelvin: u64,
+    pub fluid: u64,
     pub pascals: u64,
 }
 
