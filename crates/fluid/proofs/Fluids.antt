@@ -13,10 +13,14 @@ lastNumber = 2
 abbrev pub heaviest : ℕ
 heaviest = 4000000
 
+-- the same for temperatures
+abbrev pub cold : ℕ
+cold = 10000
+
 pub record Fits (fluid : Fluid) : Type 0 where
   pub number-fits : numberOf fluid ≤ lastNumber
   pub mass-fits : molarMass fluid ≤ heaviest
-  pub some-temperature : 0 < coldest fluid
+  pub from-cold : cold ≤ coldest fluid
   pub some-range : coldest fluid < hottest
 
 pub fits : (fluid : Fluid) → Fits fluid

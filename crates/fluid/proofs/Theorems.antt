@@ -17,7 +17,7 @@ use Rattle.fluid.specs.Checks.{fluidChecks, stateChecks}
 use Rattle.fluid.specs.Promise.{numbered, Numbers, Reached, reduction, Reaches, ReducesTo}
 use Rattle.refusals.specs.Checks.{NoneOf, Outcome, with-value, with-number}
 use Rattle.refusals.proofs.Theorems.{gives-once, refusalOf, refusal-of-number}
-use Rattle.fluid.proofs.Fluids.{heaviest, fits, fluidOf, number-of-fluid, number-determines-fluid, no-fluid}
+use Rattle.fluid.proofs.Fluids.{heaviest, cold, fits, fluidOf, number-of-fluid, number-determines-fluid, no-fluid}
 use Rattle.fluid.proofs.Accepting.{accepts, fluid-or-none}
 use Rattle.fluid.proofs.Ranges.{Bounds, spanned, bounds}
 
@@ -35,8 +35,11 @@ molar-mass-at-most fluid = fits fluid .mass-fits
 pub molar-mass-determined : (fluid : Fluid) {r s : ℕ} → r ≡ molarMass fluid → s ≡ molarMass fluid → r ≡ s
 molar-mass-determined fluid p q = p ∙ sym q
 
+pub from-cold : {fluid : Fluid} {millikelvin pascals : ℕ} → Accepted fluid millikelvin pascals → cold ≤ millikelvin
+from-cold {fluid} accepted = omega (arith, fits fluid .from-cold)
+
 pub some-temperature : {fluid : Fluid} {millikelvin pascals : ℕ} → Accepted fluid millikelvin pascals → 0 < millikelvin
-some-temperature {fluid} accepted = omega (arith, fits fluid .some-temperature)
+some-temperature accepted = omega (arith, from-cold accepted)
 
 module _ {fluid : Fluid} {millikelvin pascals : ℕ} {reduced : Reduced} (accepted : Accepted fluid millikelvin pascals) (reduces : Reduces fluid millikelvin pascals reduced) where
   within : Bounds (reduced .t) (reduced .p) (reduced .s)

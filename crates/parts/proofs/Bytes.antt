@@ -11,7 +11,7 @@ use Rattle.parts.specs.declared.Reader.{Reader}
 use Rattle.parts.specs.declared.Reader.the-variants.{Open, Malformed, TooLong}
 use Rattle.parts.specs.Bytes.{Outcome, quiet, takesByte, then, taking}
 
-then-assoc : (one two three : Outcome) → then one (then two three) ≡ then (then one two) three
+pub then-assoc : (one two three : Outcome) → then one (then two three) ≡ then (then one two) three
 then-assoc one two three =
     ap (λ (l : List State). record { after = three .after; states = l }) (sym (append-assoc (one .states) (two .states) (three .states)))
 

@@ -1,25 +1,23 @@
 -- From calls to bytes: what a call tells, and what a caller gets who goes on, is what the bytes leave and answer; and there always is a reply.
 -- Assumes nothing.
-use mathlib.Core.Path.{_≡_, refl, sym, ap, ap₂, subst, _∙_}
-use mathlib.Core.List.{List, [], _∷_, _++_}
-use Prim.Native.Nat.{ℕ, zero, suc, _+_, _≤_, _<_}
-use native.Mathlib.Nat.{not-suc-le-zero}
+use mathlib.Core.Path.{_≡_, sym, ap, ap₂, _∙_}
+use mathlib.Core.List.{List, [], _∷_}
+use Prim.Native.Nat.{ℕ, suc, _≤_, _<_}
 use native.Mathlib.Omega.{arith}
-use lib.ListN.{length, take, drop, take-append-drop, length-drop}
+use lib.ListN.{length, take, drop, take-append-drop}
 use lib.Seq.{take-take}
 use Rattle.sheets.specs.declared.State.{State}
 use Rattle.parts.specs.declared.Reader.{Reader}
-use Rattle.parts.specs.declared.Reader.the-variants.{Open, Malformed, TooLong}
 use Rattle.parts.specs.declared.Brought.{Brought}
 use Rattle.parts.specs.declared.Brought.the-variants as Brought
 use Rattle.parts.specs.declared.Taken.{Taken}
-use Rattle.parts.specs.Bytes.{Outcome, quiet, takesByte, then, taking}
+use Rattle.parts.specs.Bytes.{Outcome, then, taking}
 use Rattle.parts.specs.Takes.{EndsState, UsesUp, TakesAs, Takes}
 use Rattle.parts.specs.Served.{Served, ServedAll, joined}
 use Rattle.parts.proofs.Bytes.{both, quiet-before}
 
 -- the bytes up to the end of a state line, and then the rest
-ends-then : (reader : Reader) (part : List ℕ) (state : State) (taken : ℕ) (between : Reader) → EndsState reader part state taken between → taking reader part ≡ then (record { after = between; states = state ∷ [] }) (taking between (drop taken part))
+pub ends-then : (reader : Reader) (part : List ℕ) (state : State) (taken : ℕ) (between : Reader) → EndsState reader part state taken between → taking reader part ≡ then (record { after = between; states = state ∷ [] }) (taking between (drop taken part))
 ends-then reader part state taken between ends =
     ap (taking reader) (sym (take-append-drop taken part))
     ∙ both reader (take taken part) (drop taken part)

@@ -1,8 +1,8 @@
 -- Every part has a reply, for any reader at all, and every list of parts is served to its end. Assumes nothing.
-use mathlib.Core.Path.{_≡_, refl, sym, ap, subst, _∙_}
+use mathlib.Core.Path.{_≡_, refl, ap, subst, _∙_}
 use mathlib.Core.Bool.{Bool, true, false, cond}
 use mathlib.Core.List.{List, [], _∷_, _++_}
-use Prim.Native.Nat.{ℕ, zero, suc, _+_, _≤_, _<_}
+use Prim.Native.Nat.{ℕ, zero, suc, _<_}
 use native.Mathlib.Nat.{not-suc-le-zero}
 use native.Mathlib.Omega.{arith}
 use lib.Dec.{eqb, leb}
@@ -14,14 +14,13 @@ use Rattle.sheets.specs.declared.Line.the-variants.{Count, Told}
 use Rattle.sheets.specs.Grammar.{allSections, lineEnd}
 use Rattle.sheets.specs.Lines.{ended, wantsLine}
 use Rattle.readings.specs.Readers.{mostBytes}
-use Rattle.parts.specs.declared.Standing.{Standing}
 use Rattle.parts.specs.declared.Reader.{Reader}
 use Rattle.parts.specs.declared.Reader.the-variants.{Open, Malformed, TooLong}
 use Rattle.parts.specs.declared.Brought.{Brought}
 use Rattle.parts.specs.declared.Brought.the-variants as Brought
 use Rattle.parts.specs.declared.Taken.{Taken}
-use Rattle.parts.specs.Bytes.{longestLine, Outcome, quiet, total, behindLine, holds, reads, takesByte, then, taking}
-use Rattle.parts.specs.Takes.{EndsState, UsesUp, TakesAs, Takes}
+use Rattle.parts.specs.Bytes.{longestLine, Outcome, quiet, total, behindLine, holds, reads, takesByte, taking}
+use Rattle.parts.specs.Takes.{TakesAs, Takes}
 use Rattle.parts.specs.Served.{Served, ServedAll}
 use Rattle.parts.proofs.Bytes.{first-byte, one-byte}
 

@@ -12,7 +12,6 @@ use lib.Seq.{take-all, take-append-add, length-take-le}
 use borrow.Author.Tests.{eqb-false}
 use Rattle.sheets.specs.declared.State.{State}
 use Rattle.sheets.specs.declared.Scanned.{Scanned}
-use Rattle.sheets.specs.declared.Digest.{Digest}
 use Rattle.sheets.specs.declared.Next.the-variants as Next
 use Rattle.sheets.specs.declared.Line.{Line}
 use Rattle.sheets.specs.declared.Line.the-variants.{Count, Told}

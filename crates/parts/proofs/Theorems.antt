@@ -3,14 +3,13 @@
 use mathlib.Core.Path.{_≡_, refl, sym, ap, subst, _∙_}
 use mathlib.Core.Logic.{_⊎_, inl, inr}
 use mathlib.Core.List.{List, [], _∷_, _++_, append-nil}
-use Prim.Native.Nat.{ℕ, suc, _≤_, _<_}
+use Prim.Native.Nat.{ℕ, _≤_, _<_}
 use native.Mathlib.Nat.{zero-add}
-use native.Mathlib.Omega.{arith}
 use lib.ListN.{length}
 use Rattle.sheets.specs.declared.State.{State}
 use Rattle.sheets.specs.declared.Next.{Next}
 use Rattle.sheets.specs.declared.Next.the-variants as Next
-use Rattle.sheets.specs.Grammar.{allSections, Pair, Good, statesFrom, sumOfCounts}
+use Rattle.sheets.specs.Grammar.{allSections, Pair, Good, statesFrom}
 use Rattle.sheets.specs.Reading.{start, Reads}
 use Rattle.sheets.proofs.Walks.{Ends, reads-determined, reads-never-too-long}
 use Rattle.sheets.proofs.Written.{read-good, states-counted}
@@ -26,7 +25,7 @@ use Rattle.parts.specs.declared.Reader.the-variants.{Malformed, TooLong}
 use Rattle.parts.specs.declared.Brought.the-variants as Brought
 use Rattle.parts.specs.declared.Taken.{Taken}
 use Rattle.parts.specs.Bytes.{Outcome, atStart, taking}
-use Rattle.parts.specs.Takes.{Takes, numberOf, over}
+use Rattle.parts.specs.Takes.{Takes, numberOfReader, numberOf, over}
 use Rattle.parts.specs.Served.{Served, ServedAll, joined}
 use Rattle.parts.proofs.Bytes.{Stays, stays}
 use Rattle.parts.proofs.Whole.{saying, Reading-on, reading-from-start}
@@ -105,6 +104,9 @@ start-determined reader reader′ is is′ = is ∙ sym is′
 
 pub end-determined : (reader : Reader) (reading reading′ : Reading) → reading ≡ over reader → reading′ ≡ over reader → reading ≡ reading′
 end-determined reader reading reading′ is is′ = is ∙ sym is′
+
+pub reader-number-determined : (reader : Reader) (number number′ : ℕ) → number ≡ numberOfReader reader → number′ ≡ numberOfReader reader → number ≡ number′
+reader-number-determined reader number number′ is is′ = is ∙ sym is′
 
 pub number-determined : (reply : Taken) (number number′ : ℕ) → number ≡ numberOf (reply .brought) (reply .reader) → number′ ≡ numberOf (reply .brought) (reply .reader) → number ≡ number′
 number-determined reply number number′ is is′ = is ∙ sym is′

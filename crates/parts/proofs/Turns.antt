@@ -1,6 +1,6 @@
 -- A walk through a part: what it took so far brought nothing, and left the reader that it has now. Assumes nothing.
 use mathlib.Core.Path.{_≡_, refl, sym, ap, _∙_}
-use mathlib.Core.List.{List, [], _∷_, _++_}
+use mathlib.Core.List.{List}
 use Prim.Native.Nat.{ℕ, suc, _+_, _≤_}
 use native.Mathlib.Nat.{add-suc}
 use native.Mathlib.Omega.{arith}
@@ -14,7 +14,7 @@ use Rattle.parts.specs.declared.Brought.{Brought}
 use Rattle.parts.specs.declared.Brought.the-variants as Brought
 use Rattle.parts.specs.declared.Taken.{Taken}
 use Rattle.parts.specs.Bytes.{Outcome, quiet, taking}
-use Rattle.parts.specs.Takes.{EndsState, UsesUp, Takes}
+use Rattle.parts.specs.Takes.{UsesUp, Takes}
 use Rattle.parts.specs.Inside.{statesOf, Goes}
 use Rattle.parts.proofs.Bytes.{behind-quiet, Stays, met-stays}
 

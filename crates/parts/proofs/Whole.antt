@@ -31,7 +31,6 @@ use Rattle.readings.specs.declared.Reading.{Reading}
 use Rattle.readings.specs.declared.Reading.the-variants as Reading
 use Rattle.readings.specs.Readers.{mostBytes}
 use Rattle.parts.specs.declared.Standing.{Standing}
-use Rattle.parts.specs.declared.Reader.{Reader}
 use Rattle.parts.specs.declared.Reader.the-variants.{Open, Malformed, TooLong}
 use Rattle.parts.specs.Bytes.{longestLine, Outcome, quiet, opened, atStart, another, total, behindLine, takesByte, taking}
 use Rattle.parts.specs.Takes.{over}

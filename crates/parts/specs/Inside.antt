@@ -6,7 +6,6 @@ use lib.ListN.{length, take}
 use Rattle.sheets.specs.declared.State.{State}
 use Rattle.sheets.specs.declared.Line.{Line}
 use Rattle.parts.specs.declared.Standing.{Standing}
-use Rattle.parts.specs.declared.Reader.{Reader}
 use Rattle.parts.specs.declared.Reader.the-variants.{Open}
 use Rattle.parts.specs.declared.Brought.{Brought}
 use Rattle.parts.specs.declared.Brought.the-variants as Brought

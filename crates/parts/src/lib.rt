@@ -4,7 +4,7 @@ mod going;
 
 ghost use mathlib.Core.Path.{_≡_};
 ghost use Rattle.parts.specs.Bytes.{atStart};
-ghost use Rattle.parts.specs.Takes.{Takes, numberOf, over};
+ghost use Rattle.parts.specs.Takes.{Takes, numberOfReader, numberOf, over};
 use crate::going::go_on;
 use crate::going::nothing;
 use crate::going::opened;
@@ -43,8 +43,21 @@ pub struct Taken {
     pub taken: usize,
 }
 
+impl Reader {
+    // The paper's number of a part that is used up: 16 where no fault was met so far, and a fault's own.
+    pub fn number(self) -> u64
+        ensures { λ r. ⌜ r ≡ numberOfReader self ⌝ }
+    {
+        match self {
+            Reader::Open(_) => 16,
+            Reader::Malformed { place: _ } => 6,
+            Reader::TooLong => 7,
+        }
+    }
+}
+
 impl Taken {
-    // The paper's number: 0 where a state line ended, 16 where the part is used up, and a fault's own.
+    // The same, or 0 where a state line ended.
     pub fn number(self) -> u64
         ensures { λ r. ⌜ r ≡ numberOf (self .brought) (self .reader) ⌝ }
     {
@@ -52,11 +65,7 @@ impl Taken {
         let reader = self.reader;
         match brought {
             Brought::State(_) => 0,
-            Brought::Nothing => match reader {
-                Reader::Open(_) => 16,
-                Reader::Malformed { place: _ } => 6,
-                Reader::TooLong => 7,
-            },
+            Brought::Nothing => reader.number(),
         }
     }
 }

@@ -52,15 +52,16 @@ module _ {sections : ℕ} (bytes : List ℕ) where
         refuses 6 (inr (not-long bytes fits, inl (λ lists good. good-has-no-fault bytes lists place good fault, refl)))
         (record { place = place; is-place = fault; is-told = refl })
 
-  module _ {Figures : Type 0} (checks : List Check) (told : (number place : ℕ) → Figures) (of-lists : List (List Pair) → Option Figures) where
-    refused-once : (refusal : ℕ) (figures other : Figures) → Refused sections bytes told refusal figures → Refused sections bytes told refusal other → figures ≡ other
-    refused-once refusal figures other one two =
-        one .is-told ∙ ap (told refusal) (place-once sections bytes (eqb refusal 6) (one .place) (two .place) (one .is-place) (two .is-place)) ∙ sym (two .is-told)
+  -- a refusal has one place
+  pub refused-once : {Figures : Type 0} (told : (number place : ℕ) → Figures) (refusal : ℕ) (figures other : Figures) → Refused sections bytes told refusal figures → Refused sections bytes told refusal other → figures ≡ other
+  refused-once told refusal figures other one two =
+      one .is-told ∙ ap (told refusal) (place-once sections bytes (eqb refusal 6) (one .place) (two .place) (one .is-place) (two .is-place)) ∙ sym (two .is-told)
 
+  module _ {Figures : Type 0} (checks : List Check) (told : (number place : ℕ) → Figures) (of-lists : List (List Pair) → Option Figures) where
     answered-once : (figures other : Figures) → FromLists sections bytes of-lists figures → FromLists sections bytes of-lists other → figures ≡ other
     answered-once figures other one two =
         Option·some-injective figures other
         (sym (one .is-told) ∙ ap of-lists (written-once bytes (one .lists) (two .lists) (one .good) (two .good)) ∙ two .is-told)
 
     pub told-once : (figures other : Figures) → Tells checks (Refused sections bytes told) (FromLists sections bytes of-lists) figures → Tells checks (Refused sections bytes told) (FromLists sections bytes of-lists) other → figures ≡ other
-    told-once = tells-once checks refused-once answered-once
+    told-once = tells-once checks (refused-once told) answered-once
