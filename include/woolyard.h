@@ -91,12 +91,14 @@ extern "C" {
 #define WOOLYARD_LINE_NUMBER 3   /* of the reply to the state, as woolyard_state answers it */
 #define WOOLYARD_LINE_FIGURES 4  /* the first of the five */
 
-/* How many bytes a book has, how many a sheet may have, how many states one of its sections, and how many numbers are kept of a sheet
- * between two of its parts. */
+/* How many bytes a book has, how many a sheet may have, how many states one of its sections, how many numbers are kept of a sheet between
+ * two of its parts, how many a report has, eleven for each fluid, and how many are kept of a sheet in parts with its report so far. */
 #define WOOLYARD_BOOK_BYTES 192
 #define WOOLYARD_SHEET_MOST_BYTES 65536
 #define WOOLYARD_SECTION_MOST_STATES 1000
 #define WOOLYARD_PARTS 8
+#define WOOLYARD_REPORT 33
+#define WOOLYARD_REPORTING 44
 
 /* The reply to a state: its five figures, which are zeros where it is refused.
  * Answers 0, 1, 21, 22, 31 or 32; the first refusal in this order that applies is given. */
@@ -195,6 +197,34 @@ uint64_t woolyard_parts_take(uint64_t parts[WOOLYARD_PARTS], const uint8_t *part
  *   reading[0]  the number of state lines; 0 where refused
  *   reading[1]  6: the place, as woolyard_sheet has it; otherwise 0 */
 uint64_t woolyard_parts_end(const uint64_t parts[WOOLYARD_PARTS], uint64_t reading[2]);
+
+/* One page about a whole sheet: for each fluid what its states come to, eleven numbers a fluid, hydrogen first, then oxygen, then nitrogen.
+ * Lines are counted from 1 through the whole sheet, count lines included. Answers 0, or 6 or 7 as woolyard_sheet does, and then zeros.
+ *   report[11 * fluid + 0]   how many states were ONE, kind 1
+ *   report[11 * fluid + 1]   how many were SPLIT, kind 2
+ *   report[11 * fluid + 2]   how many were refused by 21
+ *   report[11 * fluid + 3]   how many by 22
+ *   report[11 * fluid + 4]   how many by 31
+ *   report[11 * fluid + 5]   how many by 32; these six together are the section's count
+ *   report[11 * fluid + 6]   the exact sum of the gas densities of the answered states, ONE and SPLIT
+ *   report[11 * fluid + 7]   the smallest of these gas densities
+ *   report[11 * fluid + 8]   the line of the first state that reaches it
+ *   report[11 * fluid + 9]   the largest
+ *   report[11 * fluid + 10]  the line of the first state that reaches it; the last five are 0 where no state was answered
+ *   *place                   6: the place of the fault, as woolyard_sheet has it; otherwise 0 */
+uint64_t woolyard_report(const uint8_t *sheet, size_t length, uint64_t report[WOOLYARD_REPORT], uint64_t *place);
+
+/* The same for a sheet that arrives in parts, any bytes in any pieces. All that is kept between two calls are the numbers of `reporting`: zeros
+ * before the first byte, and then what the last call left. They may be copied and gone on from, also from a copy; and they may hold any numbers at
+ * all: a sum that would then pass 64 bits adds nothing. Every part is used up.
+ * Answers 16 while no fault was met, and 6 or 7 from a fault on, in this part or before, as woolyard_parts_take does. */
+uint64_t woolyard_report_take(uint64_t reporting[WOOLYARD_REPORTING], const uint8_t *part, size_t length);
+
+/* What would be said of the sheet if it were over here: 0, 6 or 7, as woolyard_parts_end. However a sheet of at most 65,536 bytes was cut, from
+ * zeros on this is what woolyard_report says of the whole. Nothing is changed: the caller may go on.
+ *   report  as woolyard_report has it; zeros where refused
+ *   *place  6: the place; otherwise 0 */
+uint64_t woolyard_report_end(const uint64_t reporting[WOOLYARD_REPORTING], uint64_t report[WOOLYARD_REPORT], uint64_t *place);
 
 /* Writes a sheet: for each fluid a list of temperatures in millikelvin and a list of pressures in pascals, of which state k, counted from 0,
  * has number k of both. The sheet is written to the first bytes of the buffer, section by section with its count, and the bytes behind it stay

@@ -4,7 +4,6 @@ use mathlib.Core.List.{List, [], _∷_, _++_, append-assoc, append-nil}
 use Prim.Native.Nat.{ℕ, _+_, _*_, _≤_}
 use native.Mathlib.Omega.{arith}
 use lib.ListN.{length, take, length-append}
-use lib.Seq.{length-take-le}
 use Rattle.io.specs.Counts.{Counts}
 use Rattle.sheets.specs.declared.State.{State}
 use Rattle.sheets.specs.declared.Cursor.{Cursor}
@@ -23,9 +22,10 @@ use Rattle.printing.specs.Prints.{LinesText, Prints}
 use Rattle.buffers.specs.Puts.{Puts}
 use Rattle.buffers.proofs.Holding.{put-with-room, after-long, up-to-end}
 use Rattle.texts.specs.declared.Text.{Text}
-use Rattle.texts.specs.Buffer.{longestLine, bytesOf, Sized, Written}
+use Rattle.texts.specs.Buffer.{longestLine, bytesOf, Written}
 use Rattle.wording.specs.Wording.{LineText, FaultText}
 use Rattle.printing.specs.Buffer.{longestText}
+use Rattle.printing.proofs.Alone.{text-short, counts, alone}
 
 -- one line more
 lines-on : (states : List State) (state : State) (text line : List ℕ) → LinesText states text → LineText state line → LinesText (states ++ (state ∷ [])) (text ++ line)
@@ -38,9 +38,6 @@ lines-on (first ∷ states) state text line lines is-line = (
   ap (λ (l : List ℕ). l ++ line) (lines .4) ∙ append-assoc (lines .0) (lines .1) line,
 )
 
-text-short : {text : Text} → Sized text → length (bytesOf text) ≤ longestLine
-text-short {text} sized = omega (arith, sized .short, length-take-le (text .length) (text .bytes) (sized .inside))
-
 pub record Gathered (bytes before : List ℕ) (cursor : Cursor) (buffer : List ℕ) (end : ℕ) : Type 0 where
   pub states : List State
   pub passed : Passed allSections bytes cursor states
@@ -50,10 +47,6 @@ pub record Gathered (bytes before : List ℕ) (cursor : Cursor) (buffer : List �
 
 pub begins : (bytes before : List ℕ) → Gathered bytes before start before 0
 begins bytes before = record { states = []; passed = none-passed bytes; are-lines = refl; short = omega arith; same-length = refl }
-
--- what was put at the start of the buffer is all that is printed, and is within it
-counts : (buffer : List ℕ) (next : ℕ) → next ≤ length buffer → Counts next buffer
-counts buffer next inside = (inside, sym (length-take-le next buffer inside))
 
 module _ {bytes before : List ℕ} {cursor : Cursor} {buffer : List ℕ} {end : ℕ} (gathered : Gathered bytes before cursor buffer end) (large : longestText ≤ length before) where
   within : end ≤ length buffer
@@ -101,16 +94,12 @@ module _ {bytes before : List ℕ} {cursor : Cursor} {buffer : List ℕ} {end : 
 
   module _ {line : Text} {later : List ℕ} {next : ℕ} (puts : Puts (bytesOf line) buffer 0 later next) where
     -- a fault is put at the start of the buffer, over any lines
-    alone : (reading : Reading) → Written (FaultText reading) line → Counts next later × FaultText reading (take next later)
-    alone reading written =
-        let short = text-short (written .sized) in
-        let fits : 0 + length (bytesOf line) ≤ length buffer = omega (arith, gathered .same-length) in
-        let holds = put-with-room puts fits in
-        (counts later next (omega (arith, holds .reaches, after-long fits holds)), subst (FaultText reading) (sym (up-to-end fits holds)) (written .is-line))
+    fault-alone : (reading : Reading) → Written (FaultText reading) line → Counts next later × FaultText reading (take next later)
+    fault-alone reading written = alone (omega (arith, gathered .same-length)) written puts
 
     pub prints-fault : (place : ℕ) → NextIn allSections bytes cursor (Next.Malformed place) → Written (FaultText (Malformed place)) line → Counts next later × Prints bytes (take next later)
     prints-fault place next-in written =
-        let told = alone (Malformed place) written in (
+        let told = fault-alone (Malformed place) written in (
           told .0,
           record {
             reading = Malformed place;
@@ -121,4 +110,4 @@ module _ {bytes before : List ℕ} {cursor : Cursor} {buffer : List ℕ} {end : 
 
     pub prints-too-long : readers.TooLong bytes → Written (FaultText TooLong) line → Counts next later × Prints bytes (take next later)
     prints-too-long long written =
-        let told = alone TooLong written in (told .0, record { reading = TooLong; reads-as = long-told bytes long; is-text = told .1 })
+        let told = fault-alone TooLong written in (told .0, record { reading = TooLong; reads-as = long-told bytes long; is-text = told .1 })

@@ -2,3 +2,4 @@
 pub mod Laying
 pub mod Theorems
 pub mod Parts
+pub mod Reports

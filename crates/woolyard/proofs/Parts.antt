@@ -1,7 +1,7 @@
 -- What is proved of the two calls for a sheet that arrives in parts, beside their contracts: each fixes the number and every value that its caller lent,
 -- whatever numbers are kept, and the next call goes on from where this one left the reader. Assumes nothing.
 use mathlib.Core.Path.{_≡_, sym, ap, ap₂, subst, _∙_}
-use mathlib.Core.List.{List, _∷_, []}
+use mathlib.Core.List.{List, _∷_}
 use Prim.Native.Nat.{ℕ}
 use Rattle.sheets.specs.declared.State.{State}
 use Rattle.parts.specs.declared.Brought.{Brought}
@@ -11,7 +11,7 @@ use Rattle.parts.specs.Takes.{numberOf}
 use Rattle.parts.proofs.Calls.{take-determined}
 use Rattle.kept.specs.Numbers.{readerOf, numbersOf}
 use Rattle.kept.proofs.Theorems.{nothing-is-lost}
-use Rattle.woolyard.specs.Parts.{LineAnswered, AnswersBrought, TakeAnswers, EndAnswers}
+use Rattle.woolyard.specs.Parts.{nineZeros, LineAnswered, AnswersBrought, TakeAnswers, EndAnswers}
 use Rattle.woolyard.proofs.Theorems.{told-alike, state-determined}
 
 same-line : {state : State} {answer answer′ : List ℕ} → LineAnswered state answer → LineAnswered state answer′ → answer ≡ answer′
@@ -45,9 +45,9 @@ module _ (before : List ℕ) where
   goes-on-from-here p = ap readerOf (p .is-after) ∙ nothing-is-lost (p .reply .reader)
 
   -- where no state line ended, zeros
-  pub nothing-brought-lays-zeros : {part : List ℕ} {number taken : ℕ} {after answer : List ℕ} → TakeAnswers before part number after taken answer → (number ≡ 0 → ⊥) → answer ≡ 0 ∷ 0 ∷ 0 ∷ 0 ∷ 0 ∷ 0 ∷ 0 ∷ 0 ∷ 0 ∷ []
+  pub nothing-brought-lays-zeros : {part : List ℕ} {number taken : ℕ} {after answer : List ℕ} → TakeAnswers before part number after taken answer → (number ≡ 0 → ⊥) → answer ≡ nineZeros
   nothing-brought-lays-zeros {part} {number} {taken} {after} {answer} p some = by-brought (p .reply .brought) (p .is-number) (p .brings)
     where
-      by-brought : (brought : Brought) → number ≡ numberOf brought (p .reply .reader) → AnswersBrought brought answer → answer ≡ 0 ∷ 0 ∷ 0 ∷ 0 ∷ 0 ∷ 0 ∷ 0 ∷ 0 ∷ 0 ∷ []
+      by-brought : (brought : Brought) → number ≡ numberOf brought (p .reply .reader) → AnswersBrought brought answer → answer ≡ nineZeros
       by-brought (Brought.State state) is brings = absurd (some is)
       by-brought Brought.Nothing is brings = brings

@@ -9,4 +9,5 @@ pub mod HeatTables
 pub mod Viscosities
 pub mod Sheets
 pub mod Parts
+pub mod Reports
 pub mod Writes

@@ -2,6 +2,7 @@
 use mathlib.Core.Path.{_≡_}
 use mathlib.Core.List.{List, _∷_, []}
 use Prim.Native.Nat.{ℕ}
+use lib.ListN.{replicate}
 use Rattle.sheets.specs.declared.State.{State}
 use Rattle.readings.specs.declared.SheetFigures.{SheetFigures}
 use Rattle.readings.specs.Figures.{sheetFigures}
@@ -19,9 +20,13 @@ pub record LineAnswered (state : State) (answer : List ℕ) : Type 0 where
   pub answers : StateAnswers (state .fluid) (state .millikelvin) (state .pascals) number figures
   pub is-answer : answer ≡ state .fluid ∷ state .millikelvin ∷ state .pascals ∷ number ∷ figures
 
+-- where no state line ended
+abbrev pub nineZeros : List ℕ
+nineZeros = replicate 9 0
+
 abbrev pub AnswersBrought : Brought → (answer : List ℕ) → Type 0
 AnswersBrought (Brought.State state) answer = LineAnswered state answer
-AnswersBrought Brought.Nothing answer = answer ≡ 0 ∷ 0 ∷ 0 ∷ 0 ∷ 0 ∷ 0 ∷ 0 ∷ 0 ∷ 0 ∷ []
+AnswersBrought Brought.Nothing answer = answer ≡ nineZeros
 
 pub record TakeAnswers (before part : List ℕ) (number : ℕ) (after : List ℕ) (taken : ℕ) (answer : List ℕ) : Type 0 where
   pub reply : Taken

@@ -6,8 +6,10 @@ ghost use Rattle.readings.specs.Replies.{ReadsAs, shown};
 ghost use Rattle.woolyard.specs.States.{Laid};
 ghost use Rattle.woolyard.specs.Sides.{SideLaid};
 ghost use Rattle.woolyard.specs.Parts.{AnswersBrought};
+ghost use Rattle.woolyard.specs.Reports.{ReportLaid};
 use parts::Brought;
 use readings::Reading;
+use reports::Reported;
 use state::Reply;
 use state::SideReply;
 
@@ -77,4 +79,15 @@ pub(crate) fn lay_line(brought: Brought, answer: &mut [u64; 9])
             *answer = [0; 9];
         }
     }
+}
+
+// The number of a reply to a sheet. Its report goes to the caller row by row, and so does the place of a fault.
+pub(crate) fn lay_report(reply: Reported, report: &mut [[u64; 11]; 3], place: &mut u64) -> u64
+    ensures { λ r. ⌜ ReportLaid reply r (now (report .exit)) (now (place .exit)) ⌝ }
+{
+    let said = reply.figures();
+    let rows = kept_reports::rows(said.report);
+    *report = rows;
+    *place = said.place as u64;
+    said.number
 }

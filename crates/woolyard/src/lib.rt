@@ -14,11 +14,13 @@ ghost use Rattle.woolyard.specs.HeatTables.{HeatTableAnswers};
 ghost use Rattle.woolyard.specs.Viscosities.{ViscosityAnswers};
 ghost use Rattle.woolyard.specs.Sheets.{SheetAnswers, LineAnswers};
 ghost use Rattle.woolyard.specs.Parts.{TakeAnswers, EndAnswers};
+ghost use Rattle.woolyard.specs.Reports.{ReportAnswers, ReportTakeAnswers, ReportEndAnswers};
 ghost use Rattle.measures.specs.Columns.{fluidsOf};
 ghost use Rattle.woolyard.specs.Writes.{WriteAnswers};
 use crate::layout::faulty_line_length;
 use crate::layout::lay_figures;
 use crate::layout::lay_line;
+use crate::layout::lay_report;
 use crate::layout::lay_side;
 use heat::HeatCapacity;
 
@@ -233,6 +235,43 @@ pub extern "C" fn woolyard_parts_end(parts: &[u64; 8], reading: &mut [u64; 2]) -
     let told = parts::end(reader).figures();
     *reading = [told.state_lines, told.place as u64];
     told.number
+}
+
+// One page about a whole sheet: the array gets a row of eleven numbers for each fluid, and the caller's place that of a
+// fault.
+#[no_mangle]
+pub extern "C" fn woolyard_report(sheet: &[u8], report: &mut [[u64; 11]; 3], place: &mut u64) -> u64
+    ensures { λ r. ⌜ ReportAnswers (now (sheet .entry)) r (now (report .exit)) (now (place .exit)) ⌝ }
+{
+    let reply = reports::report(sheet);
+    lay_report(reply, report, place)
+}
+
+// A part of such a sheet: the array gets what is kept of it, with its report so far.
+#[no_mangle]
+pub extern "C" fn woolyard_report_take(reporting: &mut [[u64; 11]; 4], part: &[u8]) -> u64
+    ensures { λ r. ⌜ ReportTakeAnswers (now (reporting .entry)) (now (part .entry)) r (now (reporting .exit)) ⌝ }
+{
+    let before = kept_reports::reporting(reporting);
+    let after = reports::take(before, part);
+    let rows = kept_reports::kept_rows(after);
+    let reader = after.reader;
+    *reporting = rows;
+    reader.number()
+}
+
+// The report of that sheet if it is over here.
+#[no_mangle]
+pub extern "C" fn woolyard_report_end(
+    reporting: &[[u64; 11]; 4],
+    report: &mut [[u64; 11]; 3],
+    place: &mut u64,
+) -> u64
+    ensures { λ r. ⌜ ReportEndAnswers (now (reporting .entry)) r (now (report .exit)) (now (place .exit)) ⌝ }
+{
+    let kept = kept_reports::reporting(reporting);
+    let reply = reports::end(kept);
+    lay_report(reply, report, place)
 }
 
 // A sheet written from lists: the buffer gets it, and the caller's place its length.
