@@ -14,7 +14,7 @@ enum { FUNCTION, FIRST, SECOND, THIRD, FOURTH, FIFTH, SIXTH, LENGTH, LENT_NUMBER
 
 enum {
     STATE, STATE_WITH_BOOK, SIDE, SIDE_WITH_BOOK, WALK, BAND, CLAIMS, HEAT, HEAT_TABLE, VISCOSITY, SHEET, SHEET_LINE,
-    PARTS_TAKE, PARTS_END, WRITE_SHEET
+    PARTS_TAKE, PARTS_END, REPORT, REPORT_TAKE, REPORT_END, WRITE_SHEET
 };
 
 #define WORDS 524288
@@ -62,6 +62,21 @@ static uint64_t parts_take(uint64_t *call, const uint8_t *part)
     return woolyard_parts_take(parts, part, call[LENGTH], call + PLACES, answer);
 }
 
+/* What is lent of a report has so many numbers ahead of it that are not the function's, and its place is the middle one. */
+enum { AHEAD = 2, REPORT_PLACE = PLACES + 2 };
+
+static uint64_t report(uint64_t *call, const uint8_t *sheet)
+{
+    return woolyard_report(sheet, call[LENGTH], call + LENT + AHEAD, call + REPORT_PLACE);
+}
+
+/* Two lists are lent: what is kept between two parts, and the report. */
+static uint64_t report_end(uint64_t *call)
+{
+    uint64_t *reporting = call + LENT + AHEAD;
+    return woolyard_report_end(reporting, reporting + call[LENT_NUMBERS] / 2, call + REPORT_PLACE);
+}
+
 /* How many words a call takes, with what it lends. */
 static size_t words_of(const uint64_t *call)
 {
@@ -104,6 +119,12 @@ static uint64_t make(size_t word)
         return parts_take(call, lent);
     case PARTS_END:
         return woolyard_parts_end(call + LENT, call + PLACES);
+    case REPORT:
+        return report(call, lent);
+    case REPORT_TAKE:
+        return woolyard_report_take(call + LENT + AHEAD, lent, call[LENGTH]);
+    case REPORT_END:
+        return report_end(call);
     default:
         return write_sheet(call, lent);
     }

@@ -1,6 +1,6 @@
 /* The header in use: a state, one side of it, the state with a book, another fluid, a walk, a band, claims, refusals, the heat capacity, the
- * heat table, the excess viscosity factor, a sheet and its lines, a faulty sheet, a sheet written from rows, with the answers to it, and sheets
- * that arrive in parts. */
+ * heat table, the excess viscosity factor, a sheet and its lines, a faulty sheet, a sheet written from rows, with the answers to it, sheets
+ * that arrive in parts, and reports on a sheet, whole and in parts. */
 #include "woolyard.h"
 #include <inttypes.h>
 #include <stdio.h>
@@ -74,6 +74,48 @@ static void print_parts(const char *const *list, size_t count)
             printf("byte %" PRIu64 " begins the faulty line\n", reading[1]);
         else
             printf("%" PRIu64 " state lines\n", reading[0]);
+    }
+}
+
+/* For each fluid how many states were ONE, SPLIT or refused by each number, and what the gas densities come to; or the fault. */
+static void print_report(const char *of, uint64_t number, const uint64_t *report, uint64_t place)
+{
+    static const char *const kinds[] = { "ONE", "SPLIT", "NO 21", "NO 22", "NO 31", "NO 32" };
+    if (number == WOOLYARD_SHEET_MALFORMED) {
+        printf("%s: byte %" PRIu64 " begins the faulty line\n", of, place);
+        return;
+    }
+    printf("%s: reply %" PRIu64 "\n", of, number);
+    for (int fluid = 0; fluid < 3; fluid++, report += 11) {
+        printf("  fluid %d:", fluid);
+        for (int kind = 0; kind < 6; kind++)
+            printf(" %" PRIu64 " %s,", report[kind], kinds[kind]);
+        if (report[0] == 0 && report[1] == 0)
+            printf(" no densities\n");
+        else
+            printf(" densities %" PRIu64 " g/m3 in all, from %" PRIu64 " in line %" PRIu64 " to %" PRIu64 " in line %" PRIu64 "\n", report[6],
+                   report[7], report[8], report[9], report[10]);
+    }
+}
+
+static void print_whole_report(const char *sheet)
+{
+    uint64_t report[WOOLYARD_REPORT], place;
+    uint64_t number = woolyard_report((const uint8_t *)sheet, strlen(sheet), report, &place);
+    print_report("report on a sheet", number, report, place);
+}
+
+/* In parts of this size, the last of which may be shorter: behind each the fault, or what is said of the sheet if it is over there. */
+static void print_report_in_parts(const char *sheet, size_t size)
+{
+    uint64_t reporting[WOOLYARD_REPORTING] = { 0 }, report[WOOLYARD_REPORT], place;
+    printf("report on a sheet in parts\n");
+    for (size_t rest = strlen(sheet), length; rest > 0; rest -= length, sheet += length) {
+        length = rest < size ? rest : size;
+        printf("part of %zu bytes\n", length);
+        uint64_t taken = woolyard_report_take(reporting, (const uint8_t *)sheet, length);
+        uint64_t number = woolyard_report_end(reporting, report, &place);
+        print_report(taken == WOOLYARD_PART_USED_UP ? "  if it is over" : "  refused", number, report, place);
     }
 }
 
@@ -164,5 +206,11 @@ int main(void)
     static const char *const faulty_cut[] = { "0\n1\n120000 ", " 500000\n", "0\n" };
     print_parts(cut, 2);
     print_parts(faulty_cut, 3);
+
+    static const char reported[] = "1\n300000 1000000\n3\n300000 1000000\n120000 500000\n55999 500000\n1\n90000 9999\n";
+    print_whole_report(reported);
+    print_report_in_parts(reported, 40);
+    print_whole_report(faulty);
+    print_report_in_parts(faulty, 8);
     return 0;
 }

@@ -9,12 +9,12 @@ from ctypes import byref, c_double, c_size_t, c_uint8, c_uint64
 
 ANSWERED, SHEET_MALFORMED, PART_USED_UP, LINE_NUMBER = 0, 6, 16, 3
 PARAHYDROGEN, OXYGEN, NITROGEN, GAS, DENSE, KIND_SPLIT = 0, 1, 2, 0, 1, 2
-BOOK_BYTES, WALK_ENOUGH, SHEET_MOST_BYTES, PARTS = 192, 100001, 65536, 8
+BOOK_BYTES, WALK_ENOUGH, SHEET_MOST_BYTES, PARTS, REPORT, REPORTING = 192, 100001, 65536, 8, 33, 44
 
 woolyard = ctypes.CDLL(sys.argv[1])
 Figures, SideFigures, Walked, Roots = c_uint64 * 5, c_uint64 * 2, c_uint64 * 2, c_uint64 * 2
 Two, Three, Book, Buffer = c_uint64 * 2, c_uint64 * 3, c_uint8 * BOOK_BYTES, c_uint8 * SHEET_MOST_BYTES
-Parts, Line = c_uint64 * PARTS, c_uint64 * 9
+Parts, Line, Report, Reporting = c_uint64 * PARTS, c_uint64 * 9, c_uint64 * REPORT, c_uint64 * REPORTING
 Numbers = ctypes.POINTER(c_uint64)
 woolyard.woolyard_state.argtypes = [c_uint64, c_uint64, c_uint64, Figures]
 woolyard.woolyard_state_with_book.argtypes = [c_uint64, c_uint64, c_uint64, c_uint64, Book, c_size_t, Figures]
@@ -29,8 +29,12 @@ woolyard.woolyard_sheet.argtypes = [ctypes.c_char_p, c_size_t, Three]
 woolyard.woolyard_sheet_line.argtypes = [ctypes.c_char_p, c_size_t, c_uint64, Three]
 woolyard.woolyard_parts_take.argtypes = [Parts, ctypes.c_char_p, c_size_t, Numbers, Line]
 woolyard.woolyard_parts_end.argtypes = [Parts, Two]
+woolyard.woolyard_report.argtypes = [ctypes.c_char_p, c_size_t, Report, Numbers]
+woolyard.woolyard_report_take.argtypes = [Reporting, ctypes.c_char_p, c_size_t]
+woolyard.woolyard_report_end.argtypes = [Reporting, Report, Numbers]
 woolyard.woolyard_write_sheet.argtypes = [Numbers, c_size_t] * 6 + [Buffer, c_size_t, Numbers]
 names = "state state_with_book side walk band claims heat heat_table viscosity sheet sheet_line parts_take parts_end write_sheet"
+names += " report report_take report_end"
 for name in names.split():
     getattr(woolyard, f"woolyard_{name}").restype = c_uint64
 
@@ -98,6 +102,40 @@ def print_parts(parts_of_sheet):
             print(f"  {when}: {count} state lines")
 
 
+def print_report(of, number, report, place):
+    """For each fluid how many states were ONE, SPLIT or refused by each number, and what the gas densities come to; or the fault."""
+    if number == SHEET_MALFORMED:
+        print(f"{of}: byte {place.value} begins the faulty line")
+        return
+    print(f"{of}: reply {number}")
+    for fluid in range(3):
+        *counts, total, smallest, its_line, largest, line_of_largest = report[11 * fluid : 11 * fluid + 11]
+        kinds = "ONE", "SPLIT", "NO 21", "NO 22", "NO 31", "NO 32"
+        counted = ", ".join(f"{count} {kind}" for count, kind in zip(counts, kinds))
+        if counts[:2] == [0, 0]:
+            print(f"  fluid {fluid}: {counted}, no densities")
+        else:
+            reached = f"from {smallest} in line {its_line} to {largest} in line {line_of_largest}"
+            print(f"  fluid {fluid}: {counted}, densities {total} g/m3 in all, {reached}")
+
+
+def print_whole_report(sheet):
+    report, place = Report(), c_uint64()
+    number = woolyard.woolyard_report(sheet, len(sheet), report, byref(place))
+    print_report("report on a sheet", number, report, place)
+
+
+def print_report_in_parts(sheet, size):
+    """In parts of this size, the last of which may be shorter: behind each the fault, or what is said of the sheet if it is over there."""
+    reporting, report, place = Reporting(), Report(), c_uint64()
+    print("report on a sheet in parts")
+    for part in (sheet[begin : begin + size] for begin in range(0, len(sheet), size)):
+        print(f"part of {len(part)} bytes")
+        taken = woolyard.woolyard_report_take(reporting, part, len(part))
+        number = woolyard.woolyard_report_end(reporting, report, byref(place))
+        print_report("  if it is over" if taken == PART_USED_UP else "  refused", number, report, place)
+
+
 figures = Figures()
 number = woolyard.woolyard_state(OXYGEN, 120000, 500000, figures)
 kind, gas_root, dense_root, gas_density, dense_density = figures
@@ -160,7 +198,8 @@ number = woolyard.woolyard_viscosity(99, byref(factor))
 print(f"at 0.099 of it: reply {number}")
 
 print_sheet(b"1\n300000 1000000\n2\n120000 500000\n55999 500000\n1\n90000 300000\n")
-print_sheet(b"0\n1\n120000\n0\n")
+faulty = b"0\n1\n120000\n0\n"
+print_sheet(faulty)
 
 rows = [
     (OXYGEN, 300000, 1000000),
@@ -177,3 +216,9 @@ print(f"with room for one byte less: reply {number}")
 
 print_parts([b"1\n300000 1000000\n2\n1200", b"00 500000\n55999 500000\n0\n"])
 print_parts([b"0\n1\n120000 ", b" 500000\n", b"0\n"])
+
+reported = b"1\n300000 1000000\n3\n300000 1000000\n120000 500000\n55999 500000\n1\n90000 9999\n"
+print_whole_report(reported)
+print_report_in_parts(reported, 40)
+print_whole_report(faulty)
+print_report_in_parts(faulty, 8)

@@ -1,7 +1,7 @@
 //! The words around the figures in docs/BENCHMARK.md: on what machine, on which states, and how.
 
 use crate::peer;
-use crate::report::{grouped, percent, write_parts, Bar, Report};
+use crate::report::{grouped, percent, write_parts, write_reports, Bar, Report};
 use crate::rounds::{ROUNDS, WARM_UP_ROUNDS};
 use second::cubic::N;
 use second::sheet::LARGEST_COUNT;
@@ -36,6 +36,9 @@ impl Display for Report {
         writeln!(out, "\n## A sheet in parts\n")?;
         self.write_refused_in_parts(out)?;
         self.write_accepted_in_parts(out)?;
+        writeln!(out, "\n## A report\n")?;
+        self.write_accepted_reports(out)?;
+        self.write_refused_reports(out)?;
         writeln!(out, "\n## Program `sheet`\n")?;
         self.write_programs(out)?;
         write_about_programs(out)?;
@@ -172,7 +175,7 @@ the state that it was written from.
         let refused = &self.in_parts.refused;
         let bytes = grouped(refused.bytes);
         let asked = &self.in_parts.refused_beside_asked;
-        let (microseconds, ratio) = (asked.whole.median / 1e3, asked.ratio);
+        let (microseconds, ratio) = (asked.other.median / 1e3, asked.ratio);
         write!(
             out,
             "\
@@ -207,6 +210,40 @@ accepted, so the whole is read and then each of its states asked for. No bar is 
         write_parts(out, whole, accepted)
     }
 
+    fn write_accepted_reports(&self, out: &mut Formatter) -> Result {
+        let accepted = &self.sheet_reports.accepted;
+        let [state_lines, bytes] = [accepted.state_lines, accepted.bytes].map(grouped);
+        write!(
+            out,
+            "\
+Microseconds for a report on a sheet, whole or in parts, beside the very same sheet read and then each of its states
+asked for. In parts, `woolyard_report_end` is called once, behind the last of them. The report on the whole is timed
+beside two other things too: its states asked for and nothing read, and the sheet taken in one part, which answers each
+state and adds nothing up. Each row has rounds of its own with what it is timed beside, whose median round there is
+given too. They are compared round by round, and the median of the ratios is given. Before the clock runs, every report
+is checked to be what the replies of `woolyard_state` come to.
+
+On the sheet of {state_lines} accepted states, {bytes} bytes, the first row is judged.
+
+"
+        )?;
+        write_reports(out, accepted)
+    }
+
+    fn write_refused_reports(&self, out: &mut Formatter) -> Result {
+        let refused = &self.sheet_reports.refused;
+        let [state_lines, bytes] = [refused.state_lines, refused.bytes].map(grouped);
+        write!(
+            out,
+            "
+The same on the sheet of ten-digit numbers, {bytes} bytes, whose {state_lines} states are all refused by 22 at once. No bar is
+set.
+
+"
+        )?;
+        write_reports(out, refused)
+    }
+
     fn write_about_floors(&self, out: &mut Formatter) -> Result {
         let (counted, n) = (grouped(self.counted), grouped(N as usize));
         write!(
@@ -234,9 +271,10 @@ fn write_about_bars(out: &mut Formatter) -> Result {
         "
 A call for one side has less to work out than the whole call, by a density where there are two, so it may
 not take longer. As that is little, the two are compared round by round, and the median of the ratios is
-judged; so are a sheet that is written or comes in one part and the same one read. The other ratios are of the
-median rounds, the last of user times. That last one says little: the second implementation scans the whole
-grid for each state, since it is to be plain and not quick, and almost any search beats that.
+judged; so are a sheet that is written or comes in one part and the same one read, and a report on a sheet and
+reading it and answering its states. The other ratios are of the median rounds, the last of user times. That last
+one says little: the second implementation scans the whole grid for each state, since it is to be plain and not
+quick, and almost any search beats that.
 "
     )
 }

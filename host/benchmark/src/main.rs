@@ -16,6 +16,7 @@ mod programs;
 mod proved;
 mod report;
 mod rounds;
+mod sheet_reports;
 mod states;
 mod walks;
 mod writing;
@@ -26,6 +27,7 @@ use contenders::{Starts, Timings};
 use parts::InParts;
 use report::Report;
 use second::random::Random;
+use sheet_reports::SheetReports;
 use std::process::ExitCode;
 use walks::Walks;
 use writing::Writing;
@@ -61,6 +63,7 @@ fn main() -> ExitCode {
         claims: Claims::measure(&timed),
         writing: Writing::measure(),
         in_parts: InParts::measure(&timed),
+        sheet_reports: SheetReports::measure(&timed),
         scan: contenders::scan(&scanned),
         programs: programs::user_times(),
         solver: floors::of_solver(&counted),

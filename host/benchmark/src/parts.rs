@@ -2,7 +2,7 @@
 
 use crate::contenders::calls;
 use crate::proved;
-use crate::rounds::{at_once, beside, interleaved, timing, Pass, Timing};
+use crate::rounds::{at_once, compared, Compared, Pass};
 use crate::writing::{reads, wide_states};
 use second::sheet::State;
 use second::state::FLUIDS;
@@ -20,21 +20,14 @@ pub const SIZES: [usize; 4] = [1, 16, 1500, SHEET_MOST_BYTES];
 pub struct InParts {
     pub refused: OfSheet,
     pub accepted: OfSheet,
-    pub refused_beside_asked: Beside,
+    pub refused_beside_asked: Compared,
 }
 
-/// For each size of its parts; and how many state lines and bytes the sheet has.
+/// For each size of its parts, beside the whole; and how many state lines and bytes the sheet has.
 pub struct OfSheet {
-    pub sizes: [Beside; SIZES.len()],
+    pub sizes: [Compared; SIZES.len()],
     pub state_lines: usize,
     pub bytes: usize,
-}
-
-/// Nanoseconds per sheet, whole and in parts of one size, and the ratio of the two, round by round.
-pub struct Beside {
-    pub whole: Timing,
-    pub in_parts: Timing,
-    pub ratio: f64,
 }
 
 impl InParts {
@@ -52,14 +45,14 @@ impl InParts {
 
 impl OfSheet {
     /// The sheet in one part.
-    pub fn one_part(&self) -> &Beside {
+    pub fn one_part(&self) -> &Compared {
         let [.., one_part] = &self.sizes;
         one_part
     }
 }
 
 /// As many of each fluid as a section may have.
-fn full_sections(states: &[State]) -> Vec<State> {
+pub fn full_sections(states: &[State]) -> Vec<State> {
     let sections = FLUIDS.iter().flat_map(|fluid| {
         let own = states.iter().filter(|state| state.fluid == fluid.number);
         own.take(SECTION_MOST_STATES)
@@ -68,14 +61,14 @@ fn full_sections(states: &[State]) -> Vec<State> {
 }
 
 /// The states in the order of their lines.
-struct Sheet {
-    states: Vec<State>,
-    bytes: Vec<u8>,
+pub struct Sheet {
+    pub states: Vec<State>,
+    pub bytes: Vec<u8>,
 }
 
 impl Sheet {
     /// Of states that are in the order of their fluids.
-    fn of(states: Vec<State>) -> Sheet {
+    pub fn of(states: Vec<State>) -> Sheet {
         let bytes = text(lent(&lists_of(&states))).into_bytes();
         Sheet { states, bytes }
     }
@@ -95,13 +88,8 @@ impl Sheet {
 
     /// In rounds of the two alone: behind parts of one byte the whole takes a fifth longer than behind one part of all, and
     /// so would flatter that if all sizes had rounds in common.
-    fn beside(&self, whole: Pass, size: usize) -> Beside {
-        let [whole, in_parts] = interleaved([whole, self.taken(size)]);
-        Beside {
-            ratio: beside(&in_parts, &whole),
-            whole: timing(whole),
-            in_parts: timing(in_parts),
-        }
+    fn beside(&self, whole: Pass, size: usize) -> Compared {
+        compared(self.taken(size), whole)
     }
 
     /// Each line as `woolyard_state` answers it, and the end as `woolyard_sheet` has it of the whole.
@@ -117,7 +105,7 @@ impl Sheet {
         assert_eq!(end, (whole, [state_lines, place]), "in parts of {size}");
     }
 
-    fn taken(&self, size: usize) -> Pass<'_> {
+    pub fn taken(&self, size: usize) -> Pass<'_> {
         Box::new(move || {
             at_once(1, || {
                 let end = take_all(black_box(&self.bytes), size, |answer| {
@@ -129,11 +117,17 @@ impl Sheet {
     }
 
     /// The whole sheet read, and then one call for each of its states.
-    fn read_and_asked(&self) -> Pass<'_> {
+    pub fn read_and_asked(&self) -> Pass<'_> {
         let mut read = reads(&self.bytes);
+        let mut asked = self.asked();
+        Box::new(move || read() + asked())
+    }
+
+    /// The calls alone.
+    pub fn asked(&self) -> Pass<'_> {
         let mut answer = calls(&self.states, proved::state);
         let count = self.states.len() as f64;
-        Box::new(move || read() + count * answer())
+        Box::new(move || count * answer())
     }
 }
 

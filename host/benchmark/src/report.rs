@@ -6,7 +6,8 @@ use crate::contenders::Timings;
 use crate::floors::{with_a_zero, Difference};
 use crate::parts::{InParts, OfSheet, SIZES};
 use crate::programs::{UserTimes, PROVED_RUNS, SECOND_RUNS};
-use crate::rounds::Timing;
+use crate::rounds::{Compared, Timing};
+use crate::sheet_reports::{OnSheet, SheetReports, PART_SIZES};
 use crate::walks::Walks;
 use crate::writing::Writing;
 use second::state::FLUIDS;
@@ -24,6 +25,7 @@ pub struct Report {
     pub claims: Claims,
     pub writing: Writing,
     pub in_parts: InParts,
+    pub sheet_reports: SheetReports,
     pub scan: f64,
     pub programs: UserTimes,
     pub solver: Vec<Difference>,
@@ -48,7 +50,7 @@ impl Report {
         self.bars().iter().all(Bar::met)
     }
 
-    pub fn bars(&self) -> [Bar; 10] {
+    pub fn bars(&self) -> [Bar; 11] {
         let bar = |of, above: f64, below: f64, most| Bar {
             of,
             ratio: above / below,
@@ -103,6 +105,12 @@ impl Report {
                 self.in_parts.refused.one_part().ratio,
                 1.0,
                 1.3,
+            ),
+            bar(
+                "report on a sheet / reading it and answering its states",
+                self.sheet_reports.accepted.beside_answering.ratio,
+                1.0,
+                1.2,
             ),
             bar(
                 "program `sheet` / second implementation's",
@@ -308,14 +316,56 @@ pub fn write_parts(out: &mut Formatter, whole: &str, sheet: &OfSheet) -> Result 
             "| {what} | {median:.1} | {quickest:.1} | {a_second} | {whole:.1} | {ratio:.3} |"
         )
     };
-    let alone = sheet.one_part().whole;
+    let alone = sheet.one_part().other;
     write_row(whole, alone, alone, 1.0)?;
     for (size, beside) in SIZES.into_iter().zip(&sheet.sizes) {
         let what = match size {
             1 => "in parts of 1 byte, `woolyard_parts_take`".to_string(),
             _ => format!("in parts of {} bytes", grouped(size)),
         };
-        write_row(&what, beside.in_parts, beside.whole, beside.ratio)?;
+        write_row(&what, beside.timed, beside.other, beside.ratio)?;
+    }
+    Ok(())
+}
+
+/// Reports on a sheet, each beside something else, with the median round of that.
+pub fn write_reports(out: &mut Formatter, sheet: &OnSheet) -> Result {
+    writeln!(
+        out,
+        "| what | median round | quickest round | timed beside | that meanwhile | beside that |"
+    )?;
+    writeln!(out, "|---|---:|---:|---|---:|---:|")?;
+    let mut write_row = |what: &str, other: &str, compared: &Compared| {
+        let (timed, ratio) = (compared.timed, compared.ratio);
+        let times = [timed.median, timed.quickest, compared.other.median];
+        let [median, quickest, meanwhile] = times.map(|time| time / 1e3);
+        writeln!(
+            out,
+            "| {what} | {median:.1} | {quickest:.1} | {other} | {meanwhile:.1} | {ratio:.3} |"
+        )
+    };
+    let answering = "`woolyard_sheet`, and `woolyard_state` for each state";
+    write_row(
+        "the whole, `woolyard_report`",
+        answering,
+        &sheet.beside_answering,
+    )?;
+    write_row(
+        "the whole",
+        "`woolyard_state` for each state",
+        &sheet.beside_asking,
+    )?;
+    write_row(
+        "the whole",
+        "`woolyard_parts_take`, in one part",
+        &sheet.beside_one_part,
+    )?;
+    for (size, compared) in PART_SIZES.into_iter().zip(&sheet.in_parts) {
+        let what = format!(
+            "in parts of {} bytes, `woolyard_report_take`",
+            grouped(size)
+        );
+        write_row(&what, answering, compared)?;
     }
     Ok(())
 }

@@ -50,6 +50,23 @@ pub fn beside(rounds: &[f64], other: &[f64]) -> f64 {
     timing(ratios.collect()).median
 }
 
+/// Nanoseconds of a contender and of another that it is timed beside, and the ratio of the two, round by round.
+pub struct Compared {
+    pub timed: Timing,
+    pub other: Timing,
+    pub ratio: f64,
+}
+
+/// In rounds of the two alone.
+pub fn compared(timed: Pass, other: Pass) -> Compared {
+    let [other, timed] = interleaved([other, timed]);
+    Compared {
+        ratio: beside(&timed, &other),
+        timed: timing(timed),
+        other: timing(other),
+    }
+}
+
 /// Nanoseconds per state of one call each. The compiler may not look through the state.
 #[inline]
 pub fn pass(states: &[State], mut call: impl FnMut(&State)) -> f64 {

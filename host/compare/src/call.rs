@@ -1,8 +1,10 @@
 //! A call of one of the header's functions: all that goes in, and all that the function may write.
 
 use second::arrival::Arrival;
+use second::report::{Reporting, FIGURES};
 use second::writer::{OwnLists, LISTS};
 use std::fmt;
+use std::sync::Arc;
 
 /// The functions, by the numbers that a served process knows them by.
 #[derive(Clone, Copy, Debug, PartialEq, Eq)]
@@ -21,11 +23,14 @@ pub enum Function {
     SheetLine = 11,
     PartsTake = 12,
     PartsEnd = 13,
-    WriteSheet = 14,
+    Report = 14,
+    ReportTake = 15,
+    ReportEnd = 16,
+    WriteSheet = 17,
 }
 
 /// The names in the header, in the order of the numbers.
-pub const NAMES: [&str; 15] = [
+pub const NAMES: [&str; 18] = [
     "woolyard_state",
     "woolyard_state_with_book",
     "woolyard_side",
@@ -40,6 +45,9 @@ pub const NAMES: [&str; 15] = [
     "woolyard_sheet_line",
     "woolyard_parts_take",
     "woolyard_parts_end",
+    "woolyard_report",
+    "woolyard_report_take",
+    "woolyard_report_end",
     "woolyard_write_sheet",
 ];
 
@@ -67,6 +75,17 @@ pub const LINE: usize = 9;
 /// function's.
 const ARRIVING: [&str; 2] = ["parts", "answer"];
 pub const ARRIVING_ROOM: usize = 10;
+
+/// How many numbers a report has, and how many the archive keeps between two parts of a sheet that is reported.
+pub const REPORT: usize = FIGURES;
+pub const REPORTING: usize = 44;
+
+/// What a call lends of a report, each with room for so many numbers, of which the first and the last are not the
+/// function's. Its place is the middle one of the places, so others lie on both sides of that too.
+const REPORTED: [&str; 2] = ["reporting", "report"];
+pub const REPORTED_AHEAD: usize = 2;
+pub const REPORTED_ROOM: usize = REPORTED_AHEAD + REPORTING + 2;
+pub const REPORT_PLACE: usize = 2;
 
 /// Lies behind the last number of each list of a sheet to be written, where the function is not to look: it would be
 /// refused.
@@ -99,6 +118,8 @@ pub struct Call {
     /// What the second implementation keeps of a sheet that arrives in parts; the archive keeps it in the first of the
     /// numbers that are lent. None where these are any numbers, of which the second implementation can say nothing.
     pub arrival: Option<Box<Arrival>>,
+    /// The same of one that is reported. It grows with the sheet, so calls share it until one changes it.
+    pub reporting: Option<Arc<Reporting>>,
     /// The reply's number.
     pub number: u64,
 }
@@ -117,6 +138,7 @@ impl Call {
             length: 0,
             lists: Vec::new(),
             arrival: None,
+            reporting: None,
             number: NOT_YET_MADE,
         }
     }
@@ -232,6 +254,40 @@ impl Call {
         }
     }
 
+    /// As for `sheet`. What the report's room holds is the comparison's to say.
+    pub fn report(sheet: &[u8], length: usize) -> Call {
+        Call {
+            sheet: sheet.to_vec(),
+            length,
+            lists: vec![0; REPORTED_ROOM],
+            ..Call::new(Function::Report, [])
+        }
+    }
+
+    /// As for `parts_take`.
+    pub fn report_take(kept: &KeptReport, part: &[u8], length: usize) -> Call {
+        Call {
+            sheet: part.to_vec(),
+            length,
+            ..Call::of_kept_report(Function::ReportTake, kept, 1)
+        }
+    }
+
+    pub fn report_end(kept: &KeptReport) -> Call {
+        Call::of_kept_report(Function::ReportEnd, kept, REPORTED.len())
+    }
+
+    /// With so many lists, of which what is kept is the first.
+    fn of_kept_report(function: Function, kept: &KeptReport, lists: usize) -> Call {
+        let mut numbers = vec![0; lists * REPORTED_ROOM];
+        numbers[REPORTED_AHEAD..][..REPORTING].copy_from_slice(&kept.numbers);
+        Call {
+            lists: numbers,
+            reporting: kept.reporting.clone(),
+            ..Call::new(function, [])
+        }
+    }
+
     /// The function is told of so many bytes of the buffer. What they hold is the comparison's to say.
     pub fn write_sheet(lists: &OwnLists, length: usize) -> Call {
         let lengths = lists.each_ref().map(Vec::len);
@@ -276,6 +332,32 @@ impl Kept {
     }
 }
 
+/// The same of a sheet that is reported.
+#[derive(Clone)]
+pub struct KeptReport {
+    pub numbers: [u64; REPORTING],
+    pub reporting: Option<Arc<Reporting>>,
+}
+
+impl KeptReport {
+    /// Before the first byte.
+    pub fn nothing() -> KeptReport {
+        KeptReport {
+            numbers: [0; REPORTING],
+            reporting: Some(Arc::default()),
+        }
+    }
+
+    /// As a call left it.
+    pub fn after(call: Call) -> KeptReport {
+        let numbers = call.lists[REPORTED_AHEAD..].first_chunk();
+        KeptReport {
+            numbers: *numbers.expect("a call that lends what is kept"),
+            reporting: call.reporting,
+        }
+    }
+}
+
 /// What the function is told of its lists, of which it has so many. The first of its arguments are their lengths.
 pub fn told_lists<const COUNT: usize>(lists: &[u64], lengths: [u64; ARGUMENTS]) -> [&[u64]; COUNT] {
     let room = lists.len() / COUNT;
@@ -315,6 +397,15 @@ impl fmt::Display for Call {
                 write!(text, ", part \"{}\"", self.sheet.escape_ascii())
             }
             Function::PartsEnd => self.write_lists(text, &ARRIVING[..1]),
+            Function::Report => {
+                self.write_lists(text, &REPORTED[1..])?;
+                write!(text, ", sheet \"{}\"", self.sheet.escape_ascii())
+            }
+            Function::ReportTake => {
+                self.write_lists(text, &REPORTED[..1])?;
+                write!(text, ", part \"{}\"", self.sheet.escape_ascii())
+            }
+            Function::ReportEnd => self.write_lists(text, &REPORTED),
             Function::WriteSheet => {
                 self.write_lists(text, &SHEET)?;
                 write!(text, ", buffer \"{}\"", self.sheet.escape_ascii())
@@ -327,23 +418,45 @@ impl Call {
     /// Takes over from the same call, as the archive made it, what the second implementation can't say: the numbers that
     /// the archive keeps, and where they were any numbers all that the function may write.
     pub fn take_over_kept(&mut self, archive: &Call) {
-        let any_numbers = self.arrival.is_none();
         match self.function {
             Function::PartsTake => {
-                self.lists[..PARTS].copy_from_slice(&archive.lists[..PARTS]);
-                if any_numbers {
+                self.take_over_list(archive, 0, PARTS);
+                if self.arrival.is_none() {
                     self.number = archive.number;
                     self.places[0] = archive.places[0];
-                    let line = ARRIVING_ROOM..ARRIVING_ROOM + LINE;
-                    self.lists[line.clone()].copy_from_slice(&archive.lists[line]);
+                    self.take_over_list(archive, ARRIVING_ROOM, LINE);
                 }
             }
-            Function::PartsEnd if any_numbers => {
+            Function::PartsEnd if self.arrival.is_none() => {
                 self.number = archive.number;
                 self.places[..2].copy_from_slice(&archive.places[..2]);
             }
+            Function::ReportTake => {
+                self.take_over_list(archive, REPORTED_AHEAD, REPORTING);
+                if self.reporting.is_none() {
+                    self.number = archive.number;
+                }
+            }
+            Function::ReportEnd if self.reporting.is_none() => {
+                self.number = archive.number;
+                self.places[REPORT_PLACE] = archive.places[REPORT_PLACE];
+                self.take_over_list(archive, REPORTED_ROOM + REPORTED_AHEAD, REPORT);
+            }
             _ => (),
         }
+    }
+
+    /// So many of the numbers that are lent, from one on.
+    fn take_over_list(&mut self, archive: &Call, first: usize, count: usize) {
+        let list = first..first + count;
+        self.lists[list.clone()].copy_from_slice(&archive.lists[list]);
+    }
+
+    /// The report of a call that makes one, as it was left.
+    pub fn reported(&self) -> [u64; REPORT] {
+        let room = self.lists.len() - REPORTED_ROOM;
+        let report = self.lists[room + REPORTED_AHEAD..].first_chunk();
+        *report.expect("a call that makes a report")
     }
 
     /// How many bytes the book, the sheet and the lists take.
@@ -363,8 +476,9 @@ impl Call {
     /// What came before of a sheet that arrives in parts.
     fn behind(&self) -> String {
         let any = "any numbers".to_string();
-        let told = self.arrival.as_ref().map(|arrival| format!("{arrival:?}"));
-        told.unwrap_or(any)
+        let arrival = self.arrival.as_ref().map(|arrival| format!("{arrival:?}"));
+        let reporting = self.reporting.as_ref().map(|kept| format!("{kept:?}"));
+        arrival.or(reporting).unwrap_or(any)
     }
 
     /// The arguments with their names.
@@ -385,10 +499,12 @@ impl Call {
             Function::Heat => format!("kelvin {first:#018x} or {}", f64::from_bits(first)),
             Function::HeatTable => format!("millikelvin {first}"),
             Function::Viscosity => format!("thousandths {first}"),
-            Function::Sheet => format!("length {length}"),
+            Function::Sheet | Function::Report => format!("length {length}"),
             Function::SheetLine => format!("length {length}, k {first}"),
-            Function::PartsTake => format!("length {length}, behind {}", self.behind()),
-            Function::PartsEnd => format!("behind {}", self.behind()),
+            Function::PartsTake | Function::ReportTake => {
+                format!("length {length}, behind {}", self.behind())
+            }
+            Function::PartsEnd | Function::ReportEnd => format!("behind {}", self.behind()),
             Function::WriteSheet => {
                 format!("lengths {:?}, buffer length {length}", self.arguments)
             }

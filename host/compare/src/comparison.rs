@@ -1,7 +1,7 @@
 //! Asks the archive and the second implementation the same, and stops at the first difference.
 
 use crate::boundary::Boundary;
-use crate::call::{Call, Function, PARTS};
+use crate::call::{Call, Function, PARTS, REPORTED_AHEAD, REPORTING};
 use crate::second_side::Second;
 use crate::tally::Tally;
 use second::heat::NOT_NUMBERS;
@@ -96,7 +96,7 @@ impl Comparison {
         Ok(answers)
     }
 
-    /// The places are filled with junk, and so are a buffer and what is lent behind the numbers that are kept of a sheet,
+    /// The places are filled with junk, and so are a buffer and what is lent beside the numbers that are kept of a sheet,
     /// so that one which should be written and is not shows, and one that should not be and is.
     fn question(&mut self, mut call: Call) -> Call {
         call.places = [(); 5].map(|()| self.junk());
@@ -104,6 +104,11 @@ impl Comparison {
             Function::WriteSheet => call.sheet.fill_with(|| self.junk.number() as u8),
             Function::PartsTake | Function::PartsEnd => {
                 call.lists[PARTS..].fill_with(|| self.junk());
+            }
+            Function::Report => call.lists.fill_with(|| self.junk()),
+            Function::ReportTake | Function::ReportEnd => {
+                call.lists[..REPORTED_AHEAD].fill_with(|| self.junk());
+                call.lists[REPORTED_AHEAD + REPORTING..].fill_with(|| self.junk());
             }
             _ => (),
         }
@@ -137,6 +142,7 @@ impl Comparison {
         for ((question, archive), mut second) in questions.iter().zip(&mut archive).zip(second) {
             second.take_over_kept(archive);
             archive.arrival.clone_from(&second.arrival);
+            archive.reporting.clone_from(&second.reporting);
             if *archive != second {
                 return Err(format!(
                     "{question}: the archive answers {archive}; the second implementation {second}"
@@ -161,10 +167,11 @@ fn made(boundary: &mut dyn Boundary, questions: &[Call]) -> io::Result<Vec<Call>
 #[cfg(test)]
 mod tests {
     use super::*;
-    use crate::call::Kept;
+    use crate::call::{Kept, KeptReport};
     use second::sheet::TEN_NINES;
     use second::state::bytes_of_slot;
     use second::writer::OwnLists;
+    use std::sync::Arc;
 
     /// The second implementation in the archive's stead, with one answer changed.
     struct Changed(fn(&mut Call));
@@ -198,6 +205,9 @@ mod tests {
             Call::sheet(b"0\n0\n0\n0", 6),
             Call::parts_take(&Kept::nothing(), b"0\n0\n0\n0", 6),
             Call::parts_end(&Kept::nothing()),
+            Call::report(b"0\n0\n0\n0", 6),
+            Call::report_take(&KeptReport::nothing(), b"0\n0\n0\n0", 6),
+            Call::report_end(&KeptReport::nothing()),
             Call::write_sheet(&OwnLists::default(), 6),
             Call::side_with_book(state, 1, 63, &[7; 195], 192),
             Call::state_with_book(state, 63, &[7; 195], 192),
@@ -468,6 +478,110 @@ mod tests {
         assert_eq!(outcome(end(), |call| call.places[..2].fill(1)), Ok(()));
         assert!(outcome(end(), |call| call.places[2] ^= 1).is_err());
         assert!(outcome(end(), |call| call.lists[0] ^= 1).is_err());
+    }
+
+    /// Ahead of the first list of a report and behind the last, in the places beside the one that the call has.
+    const BESIDE_A_REPORT: [fn(&mut Call); 6] = [
+        |call| call.lists[0] ^= 1,
+        |call| call.lists[1] ^= 1,
+        |call| call.lists[46] ^= 1,
+        |call| *call.lists.last_mut().expect("a list") ^= 1,
+        |call| call.places[1] ^= 1,
+        |call| call.places[3] ^= 1,
+    ];
+
+    /// Of the report of a whole sheet and of refused ones: in the number, in the place, in the first figure and the last,
+    /// beside all of these, and in the sheet and behind it.
+    #[test]
+    fn differences_of_a_report() {
+        let changes: [fn(&mut Call); 7] = [
+            |call| call.number ^= 6,
+            |call| call.places[2] += 1,
+            |call| call.lists[2] += 1,
+            |call| call.lists[34] += 1,
+            |call| call.lists[35] ^= 1,
+            |call| call.sheet[0] ^= 1,
+            |call| *call.sheet.last_mut().expect("what lies behind") ^= 1,
+        ];
+        for (length, told) in [(21, "0 and ["), (20, "6 and ["), (22, "6 and [")] {
+            let call = Call::report(b"0\n0\n1\n300000 1000000\n\n0\n", length);
+            let told = format!("; the second implementation {told}");
+            assert_told_of(&call, &told, &[&changes[..], &BESIDE_A_REPORT].concat());
+        }
+    }
+
+    /// Of a part in which no fault is met and of one in which one is: in the number, beside the numbers that are kept,
+    /// which are the archive's own, and in the part.
+    #[test]
+    fn differences_of_a_reported_part() {
+        let changes: [fn(&mut Call); 3] = [
+            |call| call.number ^= 16,
+            |call| call.places[2] ^= 1,
+            |call| call.sheet[0] ^= 1,
+        ];
+        for (part, told) in [(b"0\n0\n0\n", "16 and ["), (b"0\n0\nx\n", "6 and [")] {
+            let call = Call::report_take(&KeptReport::nothing(), part, 6);
+            let told = format!("; the second implementation {told}");
+            assert_told_of(&call, &told, &[&changes[..], &BESIDE_A_REPORT].concat());
+            assert_eq!(
+                outcome(vec![call], |call| call.lists[2..46].fill(7)),
+                Ok(())
+            );
+        }
+    }
+
+    /// Of a good sheet's end and of one that lacks a line: in the number, in the place, in the first figure and the last,
+    /// in the numbers that are kept, and beside all of these.
+    #[test]
+    fn differences_of_the_end_of_a_reported_sheet() {
+        let changes: [fn(&mut Call); 8] = [
+            |call| call.number ^= 6,
+            |call| call.places[2] += 1,
+            |call| call.lists[50] += 1,
+            |call| call.lists[82] += 1,
+            |call| call.lists[49] ^= 1,
+            |call| call.lists[83] ^= 1,
+            |call| call.lists[2] ^= 1,
+            |call| call.lists[45] ^= 1,
+        ];
+        for (sheet, told) in [
+            (&b"0\n0\n0\n"[..], "; the second implementation 0 and ["),
+            (b"0\n0\n", "; the second implementation 6 and ["),
+        ] {
+            let mut kept = KeptReport::nothing();
+            let reporting = kept.reporting.as_mut().expect("nothing yet");
+            assert_eq!(Arc::make_mut(reporting).take(sheet), 16);
+            let changes = [&changes[..], &BESIDE_A_REPORT].concat();
+            assert_told_of(&Call::report_end(&kept), told, &changes);
+        }
+    }
+
+    /// As for the parts of a sheet whose lines are answered.
+    #[test]
+    fn differences_of_reports_with_any_numbers() {
+        let any = KeptReport {
+            numbers: [7; 44],
+            reporting: None,
+        };
+        let take = || vec![Call::report_take(&any, b"0\n0\n", 3)];
+        let written = |call: &mut Call| {
+            call.lists[2..46].fill(1);
+            call.number = 3;
+        };
+        assert_eq!(outcome(take(), written), Ok(()));
+        let end = || vec![Call::report_end(&any)];
+        let written = |call: &mut Call| {
+            call.lists[50..83].fill(1);
+            [call.number, call.places[2]] = [3, 4];
+        };
+        assert_eq!(outcome(end(), written), Ok(()));
+        for change in BESIDE_A_REPORT {
+            assert!(outcome(take(), change).is_err());
+            assert!(outcome(end(), change).is_err());
+        }
+        assert!(outcome(take(), |call| call.sheet[0] ^= 1).is_err());
+        assert!(outcome(end(), |call| call.lists[2] ^= 1).is_err());
+        assert!(outcome(end(), |call| call.lists[83] ^= 1).is_err());
     }
 
     /// Of an answer of the heat table, of a factor, and of those that are refused: in the number, in the one

@@ -1,7 +1,9 @@
 //! The archive, linked into this program.
 
 use crate::boundary::Boundary;
-use crate::call::{told_lists, Call, Function, ARRIVING_ROOM};
+use crate::call::{
+    told_lists, Call, Function, ARRIVING_ROOM, REPORTED_AHEAD, REPORTED_ROOM, REPORT_PLACE,
+};
 use std::io;
 use woolyard::boundary;
 
@@ -57,6 +59,19 @@ fn make(call: &mut Call) {
             let parts = first_of(&mut call.lists);
             boundary::parts_end(parts, first_of(&mut call.places))
         }
+        Function::Report => {
+            let sheet = &call.sheet[..call.length];
+            let report = reported(&mut call.lists);
+            boundary::report(sheet, report, &mut call.places[REPORT_PLACE])
+        }
+        Function::ReportTake => {
+            boundary::report_take(reported(&mut call.lists), &call.sheet[..call.length])
+        }
+        Function::ReportEnd => {
+            let (reporting, report) = call.lists.split_at_mut(REPORTED_ROOM);
+            let place = &mut call.places[REPORT_PLACE];
+            boundary::report_end(reported(reporting), reported(report), place)
+        }
         Function::WriteSheet => {
             let lists = told_lists(&call.lists, call.arguments);
             let buffer = &mut call.sheet[..call.length];
@@ -75,4 +90,9 @@ fn heat(kelvin_pattern: u64, place: &mut u64) -> u64 {
 /// As many of the places, or of the numbers that are lent, as the function has.
 fn first_of<const COUNT: usize>(places: &mut [u64]) -> &mut [u64; COUNT] {
     places.first_chunk_mut().expect("no more than there are")
+}
+
+/// As many of the room of a report, or of what is kept for one, as the function has.
+fn reported<const COUNT: usize>(room: &mut [u64]) -> &mut [u64; COUNT] {
+    first_of(&mut room[REPORTED_AHEAD..])
 }

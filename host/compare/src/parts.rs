@@ -1,7 +1,11 @@
 //! What is compared, in pieces that the workers share out.
 
+#[cfg(test)]
+mod adding;
 mod any_numbers;
 mod arrivals;
+mod arriving_lines;
+mod arriving_reports;
 mod bands;
 mod books;
 mod claim_lists;
@@ -9,6 +13,8 @@ mod claims;
 mod doubles;
 mod heat_table;
 mod journeys;
+mod reported_sheets;
+mod reports;
 mod sheets;
 mod sides;
 mod split;
@@ -65,6 +71,7 @@ pub fn units() -> Vec<Unit> {
     units.extend(written_again::units());
     units.extend(arrivals::units());
     units.extend(any_numbers::units());
+    units.extend(reports::units());
     units.extend(sides::units());
     units.extend(books::units());
     units.extend(walks::units());

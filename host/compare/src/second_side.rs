@@ -1,12 +1,16 @@
 //! The second implementation, asked as the archive is.
 
 use crate::boundary::Boundary;
-use crate::call::{told_lists, Call, Function, ARRIVING_ROOM, LINE};
+use crate::call::{
+    told_lists, Call, Function, ARRIVING_ROOM, LINE, REPORT, REPORTED_AHEAD, REPORTED_ROOM,
+    REPORT_PLACE,
+};
 use second::arrival::{Arrival, Fault};
 use second::band::{BandReply, Scaled};
 use second::claims::claims_reply_by;
 use second::heat::heat_capacity;
 use second::heat_table::tabled_heat_capacity;
+use second::report::{report_by, Report};
 use second::sheet::{self, Refusal, State};
 use second::state::{put_into_book, put_side_into_book, reply, side_of, Reply, SideReply};
 use second::viscosity::excess_factor;
@@ -14,6 +18,7 @@ use second::walk::{limited, walk_reply, WalkReply};
 use second::writer;
 use std::collections::HashMap;
 use std::io;
+use std::sync::Arc;
 
 /// How many states are remembered before they are forgotten together.
 const MOST_KNOWN: usize = 10_000;
@@ -45,6 +50,9 @@ impl Boundary for Second {
                 Function::SheetLine => sheet_line(call),
                 Function::PartsTake => self.parts_take(call),
                 Function::PartsEnd => parts_end(call),
+                Function::Report => self.report(call),
+                Function::ReportTake => report_take(call),
+                Function::ReportEnd => self.report_end(call),
                 Function::WriteSheet => write_sheet(call),
             }
         }
@@ -147,6 +155,19 @@ impl Second {
         call.lists[ARRIVING_ROOM..][..LINE].copy_from_slice(&answer);
     }
 
+    fn report(&mut self, call: &mut Call) {
+        let told = report_by(&call.sheet[..call.length], |state| self.reply(state));
+        write_report(call, told);
+    }
+
+    /// As for `parts_take`.
+    fn report_end(&mut self, call: &mut Call) {
+        let Some(reporting) = call.reporting.clone() else {
+            return;
+        };
+        write_report(call, reporting.end_by(|state| self.reply(state)));
+    }
+
     /// A state as written, and the reply to it.
     fn line(&mut self, state: State) -> [u64; LINE] {
         let state = [state.fluid, state.millikelvin, state.pascals];
@@ -235,6 +256,26 @@ fn parts_end(call: &mut Call) {
     };
     call.number = number;
     call.places[..2].copy_from_slice(&reading);
+}
+
+/// As for `parts_take`.
+fn report_take(call: &mut Call) {
+    if let Some(reporting) = &mut call.reporting {
+        call.number = Arc::make_mut(reporting).take(&call.sheet[..call.length]);
+    }
+}
+
+/// Into the last room of the lists. Where it is refused the report is zeros.
+fn write_report(call: &mut Call, told: Result<Report, Fault>) {
+    let (number, report, place) = match told {
+        Ok(report) => (0, report, 0),
+        Err(Fault { number, place }) => (number, Report::default(), place),
+    };
+    call.number = number;
+    call.places[REPORT_PLACE] = place as u64;
+    let figures = report.map(|section| section.figures()).concat();
+    let room = call.lists.len() - REPORTED_ROOM;
+    call.lists[room + REPORTED_AHEAD..][..REPORT].copy_from_slice(&figures);
 }
 
 fn write_sheet(call: &mut Call) {

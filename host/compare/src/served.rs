@@ -170,7 +170,7 @@ fn answered(call: &mut Call, answer: &[u8]) -> io::Result<()> {
 #[cfg(test)]
 mod tests {
     use super::*;
-    use crate::call::Kept;
+    use crate::call::{Kept, KeptReport};
 
     fn call() -> Call {
         Call::state_with_book([1, 2, 3], 4, &[5, 6, 7], 2)
@@ -183,7 +183,8 @@ mod tests {
         let claims = Call::claims(&[[1, 2, 3, 4, 5], [6, 7, 8, 9, 10]], [2; 5]);
         let write = Call::write_sheet(&[1, 2, 3, 4, 5, 6].map(|number| vec![number]), 3);
         let part = Call::parts_take(&Kept::default(), b"0\n0\n", 3);
-        for mut taken in [call(), claims, write, part] {
+        let report = Call::report_end(&KeptReport::nothing());
+        for mut taken in [call(), claims, write, part, report] {
             let mut made = taken.clone();
             made.number = 0;
             made.places = [1, 2, 3, 4, 5];

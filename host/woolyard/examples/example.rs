@@ -1,6 +1,9 @@
 //! The wrappers in use: what host/examples/woolyard_example.c does, in Rust.
 
-use woolyard::{Answer, Claim, Fault, FaultySheet, Fluid, Kind, Parts, Refusal, Side, State};
+use woolyard::{
+    Answer, Claim, Fault, FaultySheet, Fluid, Kind, Parts, Refusal, Report, Reporting,
+    SectionReport, Side, State,
+};
 
 fn print_sheet(sheet: &[u8]) {
     match woolyard::sheet(sheet) {
@@ -66,6 +69,56 @@ fn print_parts(list: &[&str]) {
             }
             Err(Fault::TooLong) => println!("  {when}: too long"),
         }
+    }
+}
+
+/// The fluids' sections, or the fault.
+fn print_report(of: &str, report: Result<Report, Fault>) {
+    match report {
+        Ok(report) => {
+            println!("{of}: reply 0");
+            for fluid in [Fluid::Parahydrogen, Fluid::Oxygen, Fluid::Nitrogen] {
+                print!("  fluid {}: ", fluid.number());
+                print_section(report.section(fluid));
+            }
+        }
+        Err(Fault::Malformed { place }) => println!("{of}: byte {place} begins the faulty line"),
+        Err(Fault::TooLong) => println!("{of}: too long"),
+    }
+}
+
+/// How many states were ONE, SPLIT or refused by each number, and what the gas densities come to.
+fn print_section(section: &SectionReport) {
+    print!(
+        "{} ONE, {} SPLIT, {} NO 21, {} NO 22, {} NO 31, {} NO 32, ",
+        section.one,
+        section.split,
+        section.temperature_too_low,
+        section.temperature_too_high,
+        section.pressure_too_low,
+        section.pressure_too_high
+    );
+    match (section.smallest, section.largest) {
+        (Some(smallest), Some(largest)) => println!(
+            "densities {} g/m3 in all, from {} in line {} to {} in line {}",
+            section.sum, smallest.density, smallest.line, largest.density, largest.line
+        ),
+        _ => println!("no densities"),
+    }
+}
+
+/// In parts of this size, the last of which may be shorter: behind each the fault, or what is said of the sheet if it is
+/// over there.
+fn print_report_in_parts(sheet: &[u8], size: usize) {
+    println!("report on a sheet in parts");
+    let mut reporting = Reporting::default();
+    for part in sheet.chunks(size) {
+        println!("part of {} bytes", part.len());
+        let of = match reporting.take(part) {
+            Ok(()) => "  if it is over",
+            Err(_) => "  refused",
+        };
+        print_report(of, reporting.end());
     }
 }
 
@@ -160,7 +213,8 @@ fn main() -> Result<(), Refusal> {
     }
 
     print_sheet(b"1\n300000 1000000\n2\n120000 500000\n55999 500000\n1\n90000 300000\n");
-    print_sheet(b"0\n1\n120000\n0\n");
+    let faulty = b"0\n1\n120000\n0\n";
+    print_sheet(faulty);
 
     let row = |fluid, millikelvin, pascals| State {
         fluid,
@@ -186,5 +240,12 @@ fn main() -> Result<(), Refusal> {
 
     print_parts(&["1\n300000 1000000\n2\n1200", "00 500000\n55999 500000\n0\n"]);
     print_parts(&["0\n1\n120000 ", " 500000\n", "0\n"]);
+
+    let reported =
+        b"1\n300000 1000000\n3\n300000 1000000\n120000 500000\n55999 500000\n1\n90000 9999\n";
+    print_report("report on a sheet", woolyard::report(reported));
+    print_report_in_parts(reported, 40);
+    print_report("report on a sheet", woolyard::report(faulty));
+    print_report_in_parts(faulty, 8);
     Ok(())
 }

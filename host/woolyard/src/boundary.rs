@@ -1,4 +1,4 @@
-//! The fifteen functions of include/woolyard.h, as they are: numbers in, the reply's number out, and the
+//! The eighteen functions of include/woolyard.h, as they are: numbers in, the reply's number out, and the
 //! figures in the places that the caller lends. All that is unsafe stands here.
 //!
 //! The header asks that a pointer points to as many elements as its array or its length says, that it
@@ -29,8 +29,16 @@ pub const PARTS: usize = 8;
 /// How many numbers are answered of a state line that has ended: three as written, the reply's and its figures.
 pub const LINE_NUMBERS: usize = 4 + FIGURES;
 
-/// The number of a part in which no other state line ends. It is no refusal.
+/// The number of a part in which no other state line ends, and of one that a report has taken and no fault was met in. It
+/// is no refusal.
 pub const PART_USED_UP: u64 = 16;
+
+/// How many numbers a report has of each fluid, and of all.
+pub const SECTION_REPORT: usize = 11;
+pub const REPORT: usize = 3 * SECTION_REPORT;
+
+/// How many numbers are kept of a sheet between two of its parts, with its report so far.
+pub const REPORTING: usize = 44;
 
 mod foreign {
     extern "C" {
@@ -113,6 +121,22 @@ mod foreign {
         ) -> u64;
         pub fn woolyard_parts_end(parts: *const [u64; super::PARTS], reading: *mut [u64; 2])
             -> u64;
+        pub fn woolyard_report(
+            sheet: *const u8,
+            length: usize,
+            report: *mut [u64; super::REPORT],
+            place: *mut u64,
+        ) -> u64;
+        pub fn woolyard_report_take(
+            reporting: *mut [u64; super::REPORTING],
+            part: *const u8,
+            length: usize,
+        ) -> u64;
+        pub fn woolyard_report_end(
+            reporting: *const [u64; super::REPORTING],
+            report: *mut [u64; super::REPORT],
+            place: *mut u64,
+        ) -> u64;
         pub fn woolyard_write_sheet(
             hydrogen_millikelvin: *const u64,
             hydrogen_millikelvin_length: usize,
@@ -311,6 +335,35 @@ pub fn parts_end(parts: &[u64; PARTS], reading: &mut [u64; 2]) -> u64 {
     // SAFETY: `parts` is the eight numbers that are read; `reading` is the two places that are written, and lies
     // apart, since it is `&mut`.
     unsafe { foreign::woolyard_parts_end(parts, reading) }
+}
+
+/// `woolyard_report`: eleven numbers for each fluid, and the place, of a whole sheet.
+#[inline]
+pub fn report(sheet: &[u8], report: &mut [u64; REPORT], place: &mut u64) -> u64 {
+    // SAFETY: `sheet` has the bytes that its length says and none is written; `report` and `place` are the places that
+    // are, and lie apart from it and from each other, since they are `&mut`.
+    unsafe { foreign::woolyard_report(sheet.as_ptr(), sheet.len(), report, place) }
+}
+
+/// `woolyard_report_take`: any bytes as the next of a sheet that arrives in parts, all of which are used, and any numbers
+/// as what is kept of it.
+#[inline]
+pub fn report_take(reporting: &mut [u64; REPORTING], part: &[u8]) -> u64 {
+    // SAFETY: `part` has the bytes that its length says and none is written; `reporting` is the places that are, and lies
+    // apart, since it is `&mut`.
+    unsafe { foreign::woolyard_report_take(reporting, part.as_ptr(), part.len()) }
+}
+
+/// `woolyard_report_end`: the report and the place, if the sheet were over here.
+#[inline]
+pub fn report_end(
+    reporting: &[u64; REPORTING],
+    report: &mut [u64; REPORT],
+    place: &mut u64,
+) -> u64 {
+    // SAFETY: `reporting` is the numbers that are read; `report` and `place` are the places that are written, and lie
+    // apart from it and from each other, since they are `&mut`.
+    unsafe { foreign::woolyard_report_end(reporting, report, place) }
 }
 
 /// `woolyard_write_sheet`: for hydrogen, oxygen and nitrogen in turn a list of temperatures in millikelvin and one of

@@ -4,8 +4,9 @@
 //! Safe Rust over `libwoolyard.a`, whose functions are proved to answer what document 01 (rules and
 //! scope of the build) defines, as later requests amend it. Every function answers every input, and
 //! the caller checks nothing first. None keeps a reference or has state of its own, so calls may run at
-//! the same time; what is known of a sheet that arrives in parts is the caller's own, a [`Parts`]. And none
-//! allocates but [`claims`], [`write_sheet`] and [`write_sheet_into`], which make lists of their rows.
+//! the same time; what is known of a sheet that arrives in parts is the caller's own, a [`Parts`] or a
+//! [`Reporting`]. And none allocates but [`claims`], [`write_sheet`] and [`write_sheet_into`], which make
+//! lists of their rows.
 //!
 //! ```
 //! use woolyard::{Fluid, Kind, Refusal, Side};
@@ -26,6 +27,7 @@
 pub mod boundary;
 mod parts;
 mod reply;
+mod report;
 #[cfg(test)]
 mod tests;
 
@@ -35,6 +37,7 @@ pub use reply::{
     Answer, Band, Claim, Fault, FaultySheet, Fluid, Kind, Line, Refusal, RefusedClaim, Side,
     SideAnswer, State, Walk,
 };
+pub use report::{Reached, Report, Reporting, SectionReport};
 
 /// How many bytes a book has.
 pub const BOOK_BYTES: usize = 192;
@@ -296,6 +299,24 @@ pub fn sheet_line(sheet: &[u8], k: u64) -> Result<State, Refusal> {
         millikelvin,
         pascals,
     })
+}
+
+/// One page about a whole sheet: for each fluid what its states come to. A refused sheet has the fault that [`sheet`] tells,
+/// without the line, and no report.
+///
+/// ```
+/// use woolyard::{Fault, Reached};
+///
+/// let report = woolyard::report(b"0\n2\n120000 500000\n55999 500000\n0\n")?;
+/// assert_eq!((report.oxygen.split, report.oxygen.temperature_too_low), (1, 1));
+/// let reached = Reached { density: 17_299, line: 3 };
+/// assert_eq!((report.oxygen.smallest, report.oxygen.largest), (Some(reached), Some(reached)));
+/// assert_eq!((report.nitrogen.states(), report.nitrogen.smallest), (0, None));
+/// assert_eq!(woolyard::report(b"0\nx\n0\n"), Err(Fault::Malformed { place: 2 }));
+/// # Ok::<(), Fault>(())
+/// ```
+pub fn report(sheet: &[u8]) -> Result<Report, Fault> {
+    Report::told(|report, place| boundary::report(sheet, report, place))
 }
 
 /// The sheet of these rows, as a spreadsheet has them, in any order of the fluids: a section for each fluid with its

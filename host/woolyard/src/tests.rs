@@ -1,6 +1,8 @@
 //! Document 01, "Points worked through" and "State sheets", and document 02, C-11, C-14, C-15, C-17 to C-20 and
 //! C-22 to C-24.
 
+mod report;
+
 use super::*;
 use boundary::{LINE_NUMBERS, PARTS};
 

@@ -2,9 +2,10 @@
 //! say; but two parts one after the other must be answered, and leave, what both together do.
 
 use super::arrivals::PART;
-use super::journeys::{arrive, everywhere, Sent};
+use super::arriving_lines::Lines;
+use super::journeys::{arrive, everywhere, Asked, Sent};
 use super::{beside, of_any_magnitude, powers_of_two, unit};
-use crate::call::{Call, Kept, LINE, PARTS};
+use crate::call::{Call, LINE};
 use crate::comparison::{Comparison, Outcome};
 use crate::workers::Unit;
 use second::arrival::WIDEST_LINE;
@@ -39,23 +40,35 @@ const NEAR: [u64; 3] = [0, 1, 2];
 const NEXT_BYTES: usize = 25;
 
 /// A sheet with lines of every width, and with some of its states in range.
-const SHEET: &[u8] =
+pub const SHEET: &[u8] =
     b"2\n9999999999 9999999999\n300000 1000000\n1\n120000 500000\n2\n0 1\n90000 300000\n";
 
+/// What is done with sheets that are sent from any numbers.
+type Ask<A> = fn(&mut Comparison, Vec<Sent<A>>) -> Outcome;
+
 pub fn units() -> Vec<Unit> {
+    units_of(PART, 1, ask_with_states)
+}
+
+/// The same with something else asked of every part. Of the changes of one number, one in so many is tried.
+pub fn units_of<A: Asked + 'static>(part: &'static str, tried: u64, ask: Ask<A>) -> Vec<Unit> {
     let mut units = Vec::new();
     for seed in 0..UNITS {
-        units.push(unit(PART, move |comparison| any_numbers(comparison, seed)));
+        units.push(unit(part, move |comparison| {
+            any_numbers(comparison, seed, ask)
+        }));
     }
-    for place in 0..PARTS {
-        units.push(unit(PART, move |comparison| one_changed(comparison, place)));
+    for place in 0..A::KEPT {
+        units.push(unit(part, move |comparison| {
+            one_changed(comparison, place, tried, ask)
+        }));
     }
     units
 }
 
 /// Of all magnitudes, small ones, and what lies beside bounds, with lines in any order or any text. How many of them are
 /// small differs, and the first mostly is, as it may say what the others mean.
-fn any_numbers(comparison: &mut Comparison, seed: u64) -> Outcome {
+fn any_numbers<A: Asked>(comparison: &mut Comparison, seed: u64, ask: Ask<A>) -> Outcome {
     let mut random = Random(seed);
     let mut texts = List::default();
     lines_in_any_order(&mut texts, &mut random, ANY);
@@ -69,43 +82,53 @@ fn any_numbers(comparison: &mut Comparison, seed: u64) -> Outcome {
             7 => of_any_magnitude(&mut random),
             _ => one_of(&beside_bounds, &mut random),
         };
-        let mut parts = [(); PARTS].map(|()| number());
+        let mut numbers: Vec<u64> = (0..A::KEPT).map(|_| number()).collect();
         if random.number() % 4 != 3 {
-            parts[0] = random.magnitude(small);
+            numbers[0] = random.magnitude(small);
         }
-        from_any(parts, text, &mut random)
+        from_any(&numbers, text, &mut random)
     });
     ask(comparison, sent.collect())
 }
 
-fn beside_bounds() -> Vec<u64> {
+pub fn beside_bounds() -> Vec<u64> {
     beside(powers_of_two().chain(BOUNDS), &NEAR).collect()
 }
 
 /// The numbers that are left at each place of a good sheet, with this one changed, and sometimes another too; and then
 /// the next bytes of the sheet.
-fn one_changed(comparison: &mut Comparison, place: usize) -> Outcome {
+fn one_changed<A: Asked>(
+    comparison: &mut Comparison,
+    place: usize,
+    tried: u64,
+    ask: Ask<A>,
+) -> Outcome {
     let mut random = Random(place as u64);
     let beside_bounds = beside_bounds();
     for sheet in [SHEET, EXAMPLE] {
-        let begin = |length| Sent::new(&Kept::nothing(), &sheet[..length], vec![vec![length]]);
+        let begin = |length| Sent::new(&A::nothing(), &sheet[..length], vec![vec![length]]);
         let begun = arrive(comparison, (0..=sheet.len()).map(begin).collect())?;
         let mut sent = Vec::new();
         for begun in begun {
             let rest = &sheet[begun.length()..];
             let next = &rest[..rest.len().min(NEXT_BYTES)];
-            let number = begun.left()[place];
+            let left = begun.asked().left();
+            let number = left[place];
             let bit = 1 << (random.number() % 64);
             let near = [number.wrapping_add(1), number.wrapping_sub(1), number ^ bit];
             let any = [0, u64::MAX, of_any_magnitude(&mut random)];
             let bounds = [(); 6].map(|()| one_of(&beside_bounds, &mut random));
             for changed in near.into_iter().chain(any).chain(bounds) {
-                let mut parts = begun.left();
-                if random.number() % 4 == 3 {
-                    parts[random.number() as usize % PARTS] = one_of(&beside_bounds, &mut random);
+                if tried > 1 && random.number() % tried < tried - 1 {
+                    continue;
                 }
-                parts[place] = changed;
-                sent.push(from_any(parts, next, &mut random));
+                let mut numbers = left.to_vec();
+                if random.number() % 4 == 3 {
+                    numbers[random.number() as usize % A::KEPT] =
+                        one_of(&beside_bounds, &mut random);
+                }
+                numbers[place] = changed;
+                sent.push(from_any(&numbers, next, &mut random));
             }
         }
         ask(comparison, sent)?;
@@ -113,16 +136,15 @@ fn one_changed(comparison: &mut Comparison, place: usize) -> Outcome {
     Ok(())
 }
 
-fn from_any(parts: [u64; PARTS], text: &[u8], random: &mut Random) -> Sent {
-    let arrival = None;
+pub fn from_any<A: Asked>(numbers: &[u64], text: &[u8], random: &mut Random) -> Sent<A> {
     let cuts = everywhere(text.len(), random);
-    Sent::new(&Kept { parts, arrival }, text, cuts)
+    Sent::new(&A::from_any(numbers), text, cuts)
 }
 
 /// What is told of a line's state is the reply to it, whatever it was read from.
-fn ask(comparison: &mut Comparison, sent: Vec<Sent>) -> Outcome {
+fn ask_with_states(comparison: &mut Comparison, sent: Vec<Sent<Lines>>) -> Outcome {
     let sent = arrive(comparison, sent)?;
-    let lines: Vec<[u64; LINE]> = sent.iter().flat_map(Sent::lines).collect();
+    let lines: Vec<[u64; LINE]> = sent.iter().flat_map(|sent| sent.asked().lines()).collect();
     let state = |&[fluid, millikelvin, pascals, ..]: &[u64; LINE]| {
         Call::state([fluid, millikelvin, pascals])
     };

@@ -1,10 +1,10 @@
 //! Sheets that arrive in parts: those that are read as wholes, cut in every way; long lines; and sheets about as long as
 //! one may be, with faults on both sides of the byte that is one too many.
 
-use super::journeys::{arrive, at_random, everywhere, single_bytes, Group, Sent};
+use super::arriving_lines::Lines;
+use super::journeys::{arrive, at_random, everywhere, single_bytes, Asked, Group, Sent};
 use super::sheets::{sources, Source};
 use super::unit;
-use crate::call::Kept;
 use crate::comparison::{Comparison, Outcome};
 use crate::workers::Unit;
 use second::arrival::WIDEST_LINE;
@@ -56,28 +56,33 @@ const BAD_LINES: [&[u8]; 13] = [
 const BEHIND_FAULT: &[u8] = b"9\n9 9\n0\n~\n";
 
 pub fn units() -> Vec<Unit> {
+    units_of::<Lines>(PART)
+}
+
+/// The same with something else asked of every part.
+pub fn units_of<A: Asked + 'static>(part: &'static str) -> Vec<Unit> {
     let mut units: Vec<Unit> = sources()
         .into_iter()
         .enumerate()
         .map(|(seed, source)| {
-            unit(PART, move |comparison| {
-                cut_anywhere(comparison, &source, seed as u64)
+            unit(part, move |comparison| {
+                cut_anywhere::<A>(comparison, &source, seed as u64)
             })
         })
         .collect();
-    units.push(unit(PART, cut_everywhere));
-    units.push(unit(PART, long_lines));
-    units.push(unit(PART, copies));
-    units.push(unit(PART, faults_beside_the_most));
-    units.push(unit(PART, whole_sheets_beside_the_most));
-    units.push(unit(PART, long_sheets_whole_and_in_single_bytes));
+    units.push(unit(part, cut_everywhere::<A>));
+    units.push(unit(part, long_lines::<A>));
+    units.push(unit(part, copies::<A>));
+    units.push(unit(part, faults_beside_the_most::<A>));
+    units.push(unit(part, whole_sheets_beside_the_most::<A>));
+    units.push(unit(part, long_sheets_whole_and_in_single_bytes::<A>));
     units
 }
 
 /// Every sheet at random places, and a short one beside that in one part, in two, or in single bytes.
-fn cut_anywhere(comparison: &mut Comparison, source: &Source, seed: u64) -> Outcome {
+pub fn cut_anywhere<A: Asked>(comparison: &mut Comparison, source: &Source, seed: u64) -> Outcome {
     let mut random = Random(seed);
-    let mut group = Group::new(comparison);
+    let mut group = Group::<A>::new(comparison);
     source(&mut |bytes, length| {
         let cuts = if length > SHORT {
             vec![at_random(0, length, LONG_PARTS, &mut random)]
@@ -95,9 +100,9 @@ fn cut_anywhere(comparison: &mut Comparison, source: &Source, seed: u64) -> Outc
 }
 
 /// The list of `sheet_points`.
-fn cut_everywhere(comparison: &mut Comparison) -> Outcome {
+fn cut_everywhere<A: Asked>(comparison: &mut Comparison) -> Outcome {
     let mut random = Random(0);
-    let mut group = Group::new(comparison);
+    let mut group = Group::<A>::new(comparison);
     for sheet in list() {
         group.send(&sheet, everywhere(sheet.len(), &mut random))?;
     }
@@ -106,7 +111,7 @@ fn cut_everywhere(comparison: &mut Comparison) -> Outcome {
 
 /// Lines on both sides of the widest at every place of a sheet where another kind of line is wanted, and behind its end:
 /// good ones and bad ones, bad from the first byte on or by the last alone, with an end and without.
-fn long_lines(comparison: &mut Comparison) -> Outcome {
+fn long_lines<A: Asked>(comparison: &mut Comparison) -> Outcome {
     let before: [&[u8]; 9] = [
         b"",
         b"0\n",
@@ -119,7 +124,7 @@ fn long_lines(comparison: &mut Comparison) -> Outcome {
         b"0\n0\n0\n",
     ];
     let mut random = Random(0);
-    let mut group = Group::new(comparison);
+    let mut group = Group::<A>::new(comparison);
     for line in LINE_LENGTHS.into_iter().flat_map(lines_of_length) {
         for before in before {
             for behind in [&b""[..], b"\n", b"\n0\n0\n"] {
@@ -161,7 +166,12 @@ fn changed(length: usize, place: usize, byte: u8) -> Vec<u8> {
 }
 
 /// Cut within the line about its 22nd byte, nowhere, elsewhere, and in single bytes up to well behind that one.
-fn send_long_line(group: &mut Group, sheet: &[u8], place: usize, random: &mut Random) -> Outcome {
+fn send_long_line<A: Asked>(
+    group: &mut Group<A>,
+    sheet: &[u8],
+    place: usize,
+    random: &mut Random,
+) -> Outcome {
     let length = sheet.len();
     let within = (place + WIDEST_LINE - 2..=place + WIDEST_LINE + 2).filter(|&cut| cut <= length);
     let mut cuts: Vec<Vec<usize>> = within.map(|cut| vec![cut, length]).collect();
@@ -175,7 +185,7 @@ fn send_long_line(group: &mut Group, sheet: &[u8], place: usize, random: &mut Ra
 
 /// What was kept in the middle of a sheet, or behind a fault, is copied, and gone on from with its own rest twice and
 /// with another sheet.
-fn copies(comparison: &mut Comparison) -> Outcome {
+fn copies<A: Asked>(comparison: &mut Comparison) -> Outcome {
     let mut random = Random(0);
     let mut sheets = List::default();
     for sheet in SMALL.into_iter().chain(LARGER) {
@@ -184,10 +194,10 @@ fn copies(comparison: &mut Comparison) -> Outcome {
     let begin = |sheet: &Vec<u8>| {
         let length = random.number() as usize % (sheet.len() + 1);
         let cut = at_random(0, length, SHORT_PARTS, &mut random);
-        Sent::new(&Kept::nothing(), &sheet[..length], vec![cut])
+        Sent::new(&A::nothing(), &sheet[..length], vec![cut])
     };
     let begun = arrive(comparison, sheets.sheets.iter().map(begin).collect())?;
-    let mut group = Group::new(comparison);
+    let mut group = Group::<A>::new(comparison);
     for (which, (begun, sheet)) in begun.iter().zip(&sheets.sheets).enumerate() {
         let own = &sheet[begun.length()..];
         let other = &sheets.sheets[which * 7 % sheets.sheets.len()];
@@ -201,11 +211,11 @@ fn copies(comparison: &mut Comparison) -> Outcome {
 }
 
 /// Whole lines nearly as long as a sheet may be, with more lines wanted.
-fn long_beginning(comparison: &mut Comparison) -> Result<Sent, String> {
+fn long_beginning<A: Asked>(comparison: &mut Comparison) -> Result<Sent<A>, String> {
     let mut random = Random(0);
     let sheet = &full_sheet(WIDEST)[..BEGINNING];
     let cut = at_random(0, BEGINNING, LONG_PARTS, &mut random);
-    let sent = Sent::new(&Kept::nothing(), sheet, vec![cut]);
+    let sent = Sent::new(&A::nothing(), sheet, vec![cut]);
     let mut arrived = arrive(comparison, vec![sent])?;
     Ok(arrived.remove(0))
 }
@@ -224,10 +234,10 @@ fn good_lines(count: usize, bytes: usize) -> Vec<u8> {
 }
 
 /// Bad lines whose fault is met at each byte on both sides of the one that is one too many, with others behind.
-fn faults_beside_the_most(comparison: &mut Comparison) -> Outcome {
+fn faults_beside_the_most<A: Asked>(comparison: &mut Comparison) -> Outcome {
     let begun = long_beginning(comparison)?;
     let mut random = Random(0);
-    let mut group = Group::new(comparison);
+    let mut group = Group::<A>::new(comparison);
     for line in BAD_LINES {
         // with its end, or at the first byte that no good line has
         let met = line.len().min(LINE_BYTES);
@@ -242,10 +252,10 @@ fn faults_beside_the_most(comparison: &mut Comparison) -> Outcome {
 }
 
 /// Good sheets of some bytes less than a sheet may have, of as many, and of more; with bytes behind them, and cut off.
-fn whole_sheets_beside_the_most(comparison: &mut Comparison) -> Outcome {
+fn whole_sheets_beside_the_most<A: Asked>(comparison: &mut Comparison) -> Outcome {
     let begun = long_beginning(comparison)?;
     let mut random = Random(0);
-    let mut group = Group::new(comparison);
+    let mut group = Group::<A>::new(comparison);
     for bytes in LONGEST - 4..=LONGEST + 4 {
         let rest = good_lines(LACKING, bytes - BEGINNING);
         for behind in [
@@ -267,7 +277,12 @@ fn whole_sheets_beside_the_most(comparison: &mut Comparison) -> Outcome {
 }
 
 /// In one part, in random ones, and in single bytes about the most.
-fn send_on(group: &mut Group, begun: &Sent, rest: &[u8], random: &mut Random) -> Outcome {
+fn send_on<A: Asked>(
+    group: &mut Group<A>,
+    begun: &Sent<A>,
+    rest: &[u8],
+    random: &mut Random,
+) -> Outcome {
     let length = BEGINNING + rest.len();
     let cuts = vec![
         vec![length],
@@ -278,9 +293,9 @@ fn send_on(group: &mut Group, begun: &Sent, rest: &[u8], random: &mut Random) ->
 }
 
 /// The longest sheets in single bytes; and in one part, which may be longer than any sheet.
-fn long_sheets_whole_and_in_single_bytes(comparison: &mut Comparison) -> Outcome {
+fn long_sheets_whole_and_in_single_bytes<A: Asked>(comparison: &mut Comparison) -> Outcome {
     let mut random = Random(0);
-    let mut group = Group::new(comparison);
+    let mut group = Group::<A>::new(comparison);
     for bytes in [LONGEST, LONGEST + 1] {
         let sheet = [&full_sheet(bytes)[..], BEHIND_FAULT].concat();
         let cuts = vec![vec![sheet.len()], single_bytes(0, sheet.len(), &mut random)];

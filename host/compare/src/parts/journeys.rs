@@ -1,27 +1,107 @@
 //! Sheets on their way in parts. Many are under way at a time, each call of one between those of the others; a
 //! comparison then asks for many calls at once, and nothing may be kept but the numbers that are lent.
 
-use super::sheets::{lines_of, BEHIND};
-use crate::call::{Call, Function, Kept, ARRIVING_ROOM, LINE, PARTS};
+use super::sheets::BEHIND;
+use crate::call::Call;
 use crate::comparison::{Comparison, Outcome};
 use second::arrival::USED_UP;
 use second::random::Random;
-use second::sheet::{LINE_END, LONGEST};
+use second::sheet::LONGEST;
+use std::fmt::Debug;
 
 /// How much is under way at most.
 const MOST_SHEETS: usize = 1000;
 const MOST_BYTES: usize = 2_000_000;
 
+/// What is asked on a journey, with what is kept between two parts and all that was told so far.
+pub trait Asked: Clone {
+    /// What must be the same however the sheet is cut, the numbers that were left among it.
+    type Told: Debug + PartialEq;
+
+    /// How many numbers the archive keeps.
+    const KEPT: usize;
+
+    /// Before the first byte.
+    fn nothing() -> Self;
+
+    /// As if these had been kept, as many as there are, which may be any numbers.
+    fn from_any(numbers: &[u64]) -> Self;
+
+    /// Of a part, which is the first so many of these bytes.
+    fn take(&self, part: &[u8], length: usize) -> Call;
+
+    /// What would be said if the sheet were over.
+    fn end(&self) -> Call;
+
+    /// Of the answer to a part that begins at this place of the sheet.
+    fn take_answered(&mut self, answer: &Call, place: usize) -> Taken;
+
+    /// Whether it can be the answer to that end, whatever numbers were kept.
+    fn end_answered(&mut self, answer: &Call) -> bool;
+
+    /// What is kept from either call on.
+    fn keep(&mut self, answer: Call);
+
+    fn told(&self) -> &Self::Told;
+
+    /// The numbers that the archive left.
+    fn left(&self) -> &[u64];
+
+    /// Whether the second implementation keeps it too, as it can't where any numbers were kept.
+    fn is_known(&self) -> bool;
+
+    /// Of the sheet as a whole, once it has arrived.
+    fn whole_calls(&self, bytes: &[u8], length: usize) -> Vec<Call>;
+
+    /// Whether the answers to those calls are what was told.
+    fn is_told(&self, answers: &mut dyn FnMut() -> Call) -> bool;
+}
+
+/// What the answer to a part was.
+pub enum Taken {
+    /// So many bytes were taken, and the rest is asked of next.
+    Some(usize),
+    /// All were.
+    All,
+    /// It can't be the answer, whatever numbers were kept.
+    Impossible,
+}
+
+/// The number of the fault that was met. Once there is one it stays, be it told of a part or of the sheet's end.
+#[derive(Clone, Debug, Default, PartialEq, Eq)]
+pub struct Fault(Option<u64>);
+
+impl Fault {
+    pub fn is_none(&self) -> bool {
+        self.0.is_none()
+    }
+
+    /// Whether this can be told of a part that is used up.
+    pub fn stays_with_part(&mut self, number: u64) -> bool {
+        let stays = match self.0 {
+            Some(fault) => number == fault,
+            None => [USED_UP, 6, 7].contains(&number),
+        };
+        self.0 = Some(number).filter(|&number| number != USED_UP);
+        stays
+    }
+
+    /// Whether this can be told of the end.
+    pub fn stays_with_end(&self, number: u64) -> bool {
+        [0, 6, 7].contains(&number) && self.0.unwrap_or(number) == number
+    }
+}
+
 /// A sheet, and the journeys that it makes, each of which must come to the same.
-pub struct Sent {
+pub struct Sent<A> {
     /// The sheet, and behind it what no call is told of before its time or at all.
     bytes: Vec<u8>,
     length: usize,
-    journeys: Vec<Journey>,
+    journeys: Vec<Journey<A>>,
 }
 
 /// One way to cut the sheet.
-struct Journey {
+struct Journey<A> {
     /// Where the parts end, the last of them where the sheet does.
     ends: Vec<usize>,
     /// How many parts are over, how many bytes are taken, and whether the part is used up.
@@ -30,45 +110,29 @@ struct Journey {
     used_up: bool,
     /// Whether what is left of a part behind a state line is also asked of where that is nothing.
     thorough: bool,
-    kept: Kept,
-    told: Told,
+    asked: A,
 }
 
-/// All that was told on a journey.
-#[derive(Clone, Debug, Default, PartialEq, Eq)]
-struct Told {
-    /// The state lines, each with the place behind its end.
-    lines: Vec<(usize, [u64; LINE])>,
-    /// The number of the fault that was met.
-    fault: Option<u64>,
-    /// What the sheet's end said last.
-    end: (u64, [u64; 2]),
-    /// The numbers that were left.
-    parts: [u64; PARTS],
-}
-
-impl Sent {
+impl<A: Asked> Sent<A> {
     /// From what is kept, be it of nothing, with parts that end at these places.
-    pub fn new(kept: &Kept, sheet: &[u8], cuts: Vec<Vec<usize>>) -> Sent {
-        Sent::behind(kept, &Told::default(), 0, sheet, cuts)
+    pub fn new(asked: &A, sheet: &[u8], cuts: Vec<Vec<usize>>) -> Sent<A> {
+        Sent::behind(asked, 0, sheet, cuts)
     }
 
     /// The same sheet up to here, gone on from a copy of what was kept there. The places are those of the whole.
-    pub fn gone_on(&self, rest: &[u8], cuts: Vec<Vec<usize>>) -> Sent {
-        let Journey { kept, told, .. } = &self.journeys[0];
+    pub fn gone_on(&self, rest: &[u8], cuts: Vec<Vec<usize>>) -> Sent<A> {
         let sheet = [&self.bytes[..self.length], rest].concat();
-        Sent::behind(kept, told, self.length, &sheet, cuts)
+        Sent::behind(self.asked(), self.length, &sheet, cuts)
     }
 
-    fn behind(kept: &Kept, told: &Told, taken: usize, sheet: &[u8], cuts: Vec<Vec<usize>>) -> Sent {
+    fn behind(asked: &A, taken: usize, sheet: &[u8], cuts: Vec<Vec<usize>>) -> Sent<A> {
         let journey = |(which, ends)| Journey {
             ends,
             parts: 0,
             taken,
             used_up: false,
             thorough: which % 2 == 0,
-            kept: kept.clone(),
-            told: told.clone(),
+            asked: asked.clone(),
         };
         Sent {
             bytes: [sheet, BEHIND].concat(),
@@ -82,15 +146,9 @@ impl Sent {
         self.length
     }
 
-    /// The numbers that the archive left.
-    pub fn left(&self) -> [u64; PARTS] {
-        self.journeys[0].told.parts
-    }
-
-    /// The state lines that were answered.
-    pub fn lines(&self) -> impl Iterator<Item = [u64; LINE]> + '_ {
-        let lines = self.journeys[0].told.lines.iter();
-        lines.map(|&(_, line)| line)
+    /// All that was kept and told on the first journey, which once the sheet has arrived is that of the others too.
+    pub fn asked(&self) -> &A {
+        &self.journeys[0].asked
     }
 
     fn calls(&self) -> impl Iterator<Item = Call> + '_ {
@@ -110,102 +168,91 @@ impl Sent {
     }
 
     /// However the sheet was cut, the same was told.
-    fn told_alike(&self) -> Result<&Told, String> {
+    fn compare_journeys(&self) -> Outcome {
         let [first, others @ ..] = &self.journeys[..] else {
             panic!("a journey at least");
         };
         for journey in others {
-            if journey.told != first.told {
-                let sheet = self.bytes[..self.length].escape_ascii();
+            if journey.asked.told() != first.asked.told() {
                 return Err(format!(
-                    "\"{sheet}\" in parts that end at {:?}: the archive tells {:?}; in parts that end at {:?} {:?}",
-                    first.ends, first.told, journey.ends, journey.told
+                    "{} in parts that end at {:?}: the archive tells {:?}; in parts that end at {:?} {:?}",
+                    self.shown(),
+                    first.ends,
+                    first.asked.told(),
+                    journey.ends,
+                    journey.asked.told()
                 ));
             }
         }
-        Ok(&first.told)
+        Ok(())
+    }
+
+    /// Whether what is said of the whole sheet is to be what was told.
+    fn is_compared_with_whole(&self) -> bool {
+        self.asked().is_known() && self.length <= LONGEST
+    }
+
+    fn shown(&self) -> String {
+        format!("\"{}\"", self.bytes[..self.length].escape_ascii())
     }
 }
 
-impl Journey {
+impl<A: Asked> Journey<A> {
     fn is_over(&self) -> bool {
         self.parts == self.ends.len()
     }
 
     fn call(&self, bytes: &[u8]) -> Call {
         if self.used_up {
-            return Call::parts_end(&self.kept);
+            return self.asked.end();
         }
         let end = self.ends[self.parts];
         let lent = &bytes[self.taken..end + BEHIND.len()];
-        Call::parts_take(&self.kept, lent, end - self.taken)
+        self.asked.take(lent, end - self.taken)
     }
 
     fn answered(&mut self, answer: Call) -> Outcome {
-        let plausible = match answer.function {
-            Function::PartsEnd => self.end_answered(&answer),
-            _ => self.take_answered(&answer),
+        let plausible = if self.used_up {
+            self.used_up = false;
+            self.parts += 1;
+            self.asked.end_answered(&answer)
+        } else {
+            self.take_answered(&answer)
         };
         if !plausible {
             return Err(format!("on its way a sheet is answered {answer}"));
         }
-        self.kept = Kept::after(answer);
-        self.told.parts = self.kept.parts;
+        self.asked.keep(answer);
         Ok(())
     }
 
-    /// Whether it can be the answer, whatever numbers were kept: bytes were taken up to an end, or else all of them
-    /// and nothing is told; and a fault stays.
     fn take_answered(&mut self, answer: &Call) -> bool {
-        let Call { number, length, .. } = *answer;
-        let taken = answer.places[0] as usize;
-        let line = &answer.lists[ARRIVING_ROOM..][..LINE];
-        if taken > length {
-            return false;
-        }
-        self.taken += taken;
-        if number == 0 {
-            let line = line.try_into().expect("as many as a line has");
-            self.told.lines.push((self.taken, line));
-            self.used_up = taken == length && !self.thorough;
-            return answer.sheet[..taken].ends_with(&[LINE_END]) && self.told.fault.is_none();
-        }
-        self.used_up = true;
-        let known = match self.told.fault {
-            Some(fault) => number == fault,
-            None => [USED_UP, 6, 7].contains(&number),
-        };
-        self.told.fault = Some(number).filter(|&number| number != USED_UP);
-        known && taken == length && line.iter().all(|&figure| figure == 0)
-    }
-
-    /// The same of the sheet's end.
-    fn end_answered(&mut self, answer: &Call) -> bool {
-        let number = answer.number;
-        let reading = [answer.places[0], answer.places[1]];
-        self.told.end = (number, reading);
-        self.used_up = false;
-        self.parts += 1;
-        let stays = self.told.fault.unwrap_or(number) == number;
-        stays
-            && match number {
-                0 => reading[1] == 0,
-                6 => reading[0] == 0,
-                7 => reading == [0; 2],
-                _ => false,
+        let length = answer.length;
+        let taken = match self.asked.take_answered(answer, self.taken) {
+            Taken::Some(taken) => {
+                self.used_up = taken == length && !self.thorough;
+                taken
             }
+            Taken::All => {
+                self.used_up = true;
+                length
+            }
+            Taken::Impossible => return false,
+        };
+        self.taken += taken;
+        true
     }
 }
 
 /// Sends sheets as they come, many at a time.
-pub struct Group<'a> {
+pub struct Group<'a, A> {
     comparison: &'a mut Comparison,
-    sent: Vec<Sent>,
+    sent: Vec<Sent<A>>,
     bytes: usize,
 }
 
-impl Group<'_> {
-    pub fn new(comparison: &mut Comparison) -> Group<'_> {
+impl<A: Asked> Group<'_, A> {
+    pub fn new(comparison: &mut Comparison) -> Group<'_, A> {
         Group {
             comparison,
             sent: Vec::new(),
@@ -215,10 +262,10 @@ impl Group<'_> {
 
     /// From the first byte on.
     pub fn send(&mut self, sheet: &[u8], cuts: Vec<Vec<usize>>) -> Outcome {
-        self.add(Sent::new(&Kept::nothing(), sheet, cuts))
+        self.add(Sent::new(&A::nothing(), sheet, cuts))
     }
 
-    pub fn add(&mut self, sent: Sent) -> Outcome {
+    pub fn add(&mut self, sent: Sent<A>) -> Outcome {
         self.bytes += sent.bytes.len();
         self.sent.push(sent);
         if self.sent.len() >= MOST_SHEETS || self.bytes >= MOST_BYTES {
@@ -235,14 +282,18 @@ impl Group<'_> {
 }
 
 /// The sheets with their journeys over, which told all that they should have.
-pub fn arrive(comparison: &mut Comparison, mut sent: Vec<Sent>) -> Result<Vec<Sent>, String> {
+pub fn arrive<A: Asked>(
+    comparison: &mut Comparison,
+    mut sent: Vec<Sent<A>>,
+) -> Result<Vec<Sent<A>>, String> {
     travel(comparison, &mut sent)?;
+    sent.iter().try_for_each(Sent::compare_journeys)?;
     compare_with_whole(comparison, &sent)?;
     Ok(sent)
 }
 
 /// The next call of each journey, until all are over.
-fn travel(comparison: &mut Comparison, sent: &mut [Sent]) -> Outcome {
+fn travel<A: Asked>(comparison: &mut Comparison, sent: &mut [Sent<A>]) -> Outcome {
     loop {
         let calls: Vec<Call> = sent.iter().flat_map(Sent::calls).collect();
         if calls.is_empty() {
@@ -254,69 +305,22 @@ fn travel(comparison: &mut Comparison, sent: &mut [Sent]) -> Outcome {
     }
 }
 
-/// What the sheet's end says last is what the whole sheet's reply does, where it is not too long; and where it is good,
-/// the answers are its lines with the replies to their states.
-fn compare_with_whole(comparison: &mut Comparison, sent: &[Sent]) -> Outcome {
-    let mut wholes = Vec::new();
-    for sheet in sent {
-        let told = sheet.told_alike()?;
-        let begun_well = sheet.journeys[0].kept.arrival.is_some();
-        if begun_well && sheet.length <= LONGEST {
-            wholes.push(Whole { sheet, told });
-        }
-    }
-    let calls = wholes.iter().flat_map(Whole::calls);
+/// What was told of the parts is what is said of the whole sheet, where it is not too long.
+fn compare_with_whole<A: Asked>(comparison: &mut Comparison, sent: &[Sent<A>]) -> Outcome {
+    let compared = || sent.iter().filter(|sheet| sheet.is_compared_with_whole());
+    let calls = compared().flat_map(|sheet| sheet.asked().whole_calls(&sheet.bytes, sheet.length));
     let mut answers = comparison.all_answers(calls)?.into_iter();
-    for whole in wholes {
-        if !whole.is_told(&mut answers) {
-            let sheet = whole.sheet.bytes[..whole.sheet.length].escape_ascii();
-            let told = whole.told;
+    let mut answer = || answers.next().expect("an answer to each");
+    for sheet in compared() {
+        if !sheet.asked().is_told(&mut answer) {
             return Err(format!(
-                "\"{sheet}\" as a whole is answered otherwise than in parts: {told:?}"
+                "{} as a whole is answered otherwise than in parts: {:?}",
+                sheet.shown(),
+                sheet.asked().told()
             ));
         }
     }
     Ok(())
-}
-
-/// A sheet that has arrived, and is asked for as a whole.
-struct Whole<'a> {
-    sheet: &'a Sent,
-    told: &'a Told,
-}
-
-impl Whole<'_> {
-    /// Of a good sheet, those lines that the whole is asked for.
-    fn lines(&self) -> impl Iterator<Item = (u64, &[u64; LINE])> {
-        let count = self.told.end.1[0];
-        let lines = lines_of(count).into_iter().filter(move |&k| k < count);
-        lines.filter_map(|k| Some((k, &self.told.lines.get(k as usize)?.1)))
-    }
-
-    fn calls(&self) -> Vec<Call> {
-        let Sent { bytes, length, .. } = self.sheet;
-        let mut calls = vec![Call::sheet(bytes, *length)];
-        for (k, &[fluid, millikelvin, pascals, ..]) in self.lines() {
-            calls.push(Call::sheet_line(bytes, *length, k));
-            calls.push(Call::state([fluid, millikelvin, pascals]));
-        }
-        calls
-    }
-
-    /// Whether the answers to those calls are what was told.
-    fn is_told(&self, answers: &mut impl Iterator<Item = Call>) -> bool {
-        let mut answer = || answers.next().expect("an answer to each");
-        let whole = answer();
-        let (number, reading) = self.told.end;
-        let counted = number != 0 || self.told.lines.len() as u64 == reading[0];
-        let mut alike = counted && whole.number == number && whole.places[..2] == reading;
-        for (_, line) in self.lines() {
-            let [written, state] = [answer(), answer()];
-            alike &= written.number == 0 && written.places[..3] == line[..3];
-            alike &= state.number == line[3] && state.places == line[4..];
-        }
-        alike
-    }
 }
 
 /// In one part, in two of every length, and in single bytes.
@@ -355,85 +359,6 @@ pub fn at_random(from: usize, length: usize, most: u64, random: &mut Random) -> 
 #[cfg(test)]
 mod tests {
     use super::*;
-    use crate::boundary::Boundary;
-    use crate::second_side::Second;
-    use std::io;
-
-    /// The second implementation in the archive's stead, and for any numbers one that adds the bytes up, without a fault
-    /// up to the first 9; with a change of what it did.
-    struct Adding(fn(&mut Call));
-
-    impl Boundary for Adding {
-        fn make(&mut self, calls: &mut [Call]) -> io::Result<()> {
-            Second::default().make(calls)?;
-            for call in calls {
-                let of_parts = [Function::PartsTake, Function::PartsEnd].contains(&call.function);
-                if of_parts && call.arrival.is_none() {
-                    add(call);
-                    self.0(call);
-                }
-            }
-            Ok(())
-        }
-    }
-
-    fn add(call: &mut Call) {
-        if call.function == Function::PartsEnd {
-            call.number = 6;
-            [call.places[0], call.places[1]] = [0, call.lists[0]];
-            return;
-        }
-        let part = &call.sheet[..call.length];
-        call.lists[1] |= u64::from(part.contains(&b'9'));
-        call.lists[0] += part.iter().map(|&byte| u64::from(byte)).sum::<u64>();
-        call.number = [USED_UP, 6][call.lists[1] as usize];
-        call.places[0] = call.length as u64;
-        call.lists[ARRIVING_ROOM..][..LINE].fill(0);
-    }
-
-    fn outcome(change: fn(&mut Call)) -> Result<Vec<Sent>, String> {
-        let arrival = None;
-        let parts = [0; PARTS];
-        let cuts = |length| everywhere(length, &mut Random(0));
-        let any = Sent::new(&Kept { parts, arrival }, b"0\n19\n1\n", cuts(7));
-        let good = Sent::new(&Kept::nothing(), b"1\n3 4\n0\n0\n", cuts(10));
-        let mut comparison = Comparison::new(Box::new(Adding(change)));
-        arrive(&mut comparison, vec![any, good])
-    }
-
-    #[test]
-    fn all_is_well() {
-        let arrived = outcome(|_| ()).expect("no difference");
-        let sums = arrived.iter().map(|sent| sent.left()[0]);
-        assert_eq!(sums.collect::<Vec<u64>>(), [233, 0]);
-        assert_eq!(arrived[1].lines().count(), 1);
-    }
-
-    /// A part that counts, though it may be empty; a fault that is mended, or told of by another number; too much
-    /// taken, or too little; an answer that is not zeros; a line that ends within a part and not with an end; and an
-    /// end that tells of another fault, of no number, or of states where it is refused.
-    #[test]
-    fn what_any_numbers_may_not_do() {
-        let changes: [fn(&mut Call); 10] = [
-            |call| call.lists[0] += u64::from(call.function == Function::PartsTake),
-            |call| call.lists[1] &= u64::from(call.length > 0),
-            |call| call.number += u64::from(call.number == 6 && call.length == 1),
-            |call| call.places[0] += u64::from(call.length == 7),
-            |call| call.places[0] -= u64::from(call.length == 7),
-            |call| {
-                if call.length == 7 {
-                    call.lists[18] = 1;
-                }
-            },
-            |call| call.number *= u64::from(call.length != 7),
-            |call| call.number += u64::from(call.function == Function::PartsEnd),
-            |call| call.number *= u64::from(call.function == Function::PartsTake),
-            |call| call.places[0] += u64::from(call.function == Function::PartsEnd),
-        ];
-        for (which, change) in changes.into_iter().enumerate() {
-            assert!(outcome(change).is_err(), "{which}");
-        }
-    }
 
     #[test]
     fn places_of_cuts() {

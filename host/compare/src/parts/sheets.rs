@@ -62,7 +62,7 @@ fn visit_all(visit: Visit, sheets: &[Vec<u8>]) -> Outcome {
         .try_for_each(|sheet| visit_sheet(visit, sheet))
 }
 
-fn visit_sheet(visit: Visit, sheet: &[u8]) -> Outcome {
+pub fn visit_sheet(visit: Visit, sheet: &[u8]) -> Outcome {
     visit(&[sheet, BEHIND].concat(), sheet.len())
 }
 
