@@ -1,19 +1,22 @@
 -- What is proved of reports, beside their contracts: the counts add up, the sum is exact, a refused sheet has an empty report, a sheet is reported alike
--- whole and in parts, and each contract fixes its answer. Assumes nothing.
+-- whole and in parts, there always is an answer, and each contract fixes it. Assumes nothing.
 use mathlib.Core.Path.{_≡_, refl, sym, ap, ap₂, subst, _∙_}
 use mathlib.Core.List.{List, [], _∷_, _++_}
 use Prim.Native.Nat.{ℕ, suc, _+_, _≤_, _<_}
 use native.Mathlib.Omega.{arith}
+use native.Mathlib.Decide.{decLe}
 use lib.ListN.{length}
 use Rattle.refusals.specs.Checks.{refuses, answers}
 use Rattle.refusals.proofs.Theorems.{tells-once}
 use Rattle.replies.specs.declared.Figures.{Figures}
+use Rattle.replies.specs.Figures as replies
 use Rattle.state.proofs.Determined.{same-told}
+use Rattle.state.proofs.Theorems.{every-state-has-a-reply}
 use Rattle.sheets.specs.declared.State.{State}
 use Rattle.sheets.specs.Grammar.{allSections, mostStates, Pair}
 use Rattle.sheets.proofs.Theorems.{written-once}
 use Rattle.readings.specs.Readers.{mostBytes, sheetChecks}
-use Rattle.readings.proofs.Answers.{refused-once}
+use Rattle.readings.proofs.Answers.{long-told, refused-once}
 use Rattle.parts.specs.declared.Reader.{Reader}
 use Rattle.parts.specs.Bytes.{Outcome, then, taking}
 use Rattle.parts.specs.Served.{joined}
@@ -159,6 +162,33 @@ pub whole-as-parts : (parts : List (List ℕ)) (after : Reporting) (whole : Repo
 whole-as-parts parts after whole fits takes told =
     report-determined (joined parts) (overHere after) whole (taken-from-start (joined parts) fits after (all-at-once parts atStart after takes)) told
 
+-- ---- there always is an answer
+added : (states : List State) (before : Running) → (after : Running) × AddsAll states before after
+added [] before = (before, refl)
+added (state ∷ states) before =
+    let reply = every-state-has-a-reply (state .fluid) (state .millikelvin) (state .pascals) in
+    let between = adds before state (replies.figuresOf (reply .0)) in
+    let later = added states between in
+    (later .0, (between, record { figures = replies.figuresOf (reply .0); replies = reply .1; is-after = refl }, later .1))
+
+-- Every part is taken, whatever is kept.
+pub every-part-is-taken : (before : Reporting) (part : List ℕ) → (after : Reporting) × TakesPart before part after
+every-part-is-taken before part =
+    let outcome = taking (before .reader) part in
+    let later = added (outcome .states) (before .running) in
+    (record { reader = outcome .after; running = later .0 }, record { is-reader = refl; adds-all = later .1 })
+
+-- Every sheet has a report or a refusal.
+pub every-sheet-has-a-report : (bytes : List ℕ) → (reply : Reported) × ReportsAs bytes (figuresOf reply)
+every-sheet-has-a-report bytes = short-or-long (decLe (length bytes) mostBytes)
+  where
+    short-or-long : Dec (length bytes ≤ mostBytes) → (reply : Reported) × ReportsAs bytes (figuresOf reply)
+    short-or-long (yes short) =
+        let taken = every-part-is-taken atStart bytes in
+        (overHere (taken .0), taken-from-start bytes short (taken .0) (taken .1))
+    short-or-long (no long) = (Reported.TooLong, long-told bytes (omega arith))
+
+-- ---- each contract fixes its answer
 pub start-determined : (r s : Reporting) → r ≡ atStart → s ≡ atStart → r ≡ s
 start-determined r s is is′ = is ∙ sym is′
 
