@@ -20,6 +20,11 @@
 extern "C" {
 #endif
 
+/* What C sees of the archive, as a number: it goes up by one with each landing that changes a number, a type, a function or what one
+ * means here (CHANGELOG.md tells what). A caller that was compiled with this header asks the archive that it is linked with:
+ * woolyard_abi() == WOOLYARD_ABI. */
+#define WOOLYARD_ABI 1
+
 /* The numbers of the replies. */
 #define WOOLYARD_ANSWERED 0
 #define WOOLYARD_NO_SUCH_FLUID 1          /* fluid is above 2 */
@@ -37,6 +42,7 @@ extern "C" {
 #define WOOLYARD_ROOT_DIFFERS 14          /* the root that is claimed is not the side's */
 #define WOOLYARD_DENSITY_OUT_OF_RANGE 15  /* reduced density below 100 or above 3000 thousandths */
 #define WOOLYARD_NO_SUCH_LINE 16          /* no state line of the number asked for */
+#define WOOLYARD_NO_MORE_LINES 16         /* no state line is left, and the sheet is good */
 #define WOOLYARD_PART_USED_UP 16          /* no state line ended in what was left of the part */
 #define WOOLYARD_TEMPERATURE_TOO_LOW 21   /* below 14,000 mK for parahydrogen, 56,000 mK for oxygen, 64,000 mK for nitrogen */
 #define WOOLYARD_TEMPERATURE_TOO_HIGH 22  /* above 1,000,000 mK for every fluid */
@@ -91,14 +97,19 @@ extern "C" {
 #define WOOLYARD_LINE_NUMBER 3   /* of the reply to the state, as woolyard_state answers it */
 #define WOOLYARD_LINE_FIGURES 4  /* the first of the five */
 
-/* How many bytes a book has, how many a sheet may have, how many states one of its sections, how many numbers are kept of a sheet between
- * two of its parts, how many a report has, eleven for each fluid, and how many are kept of a sheet in parts with its report so far. */
+/* How many bytes a book has, how many a sheet may have, how many states one of its sections, how many numbers a cursor over a sheet has, how many
+ * are kept of a sheet between two of its parts, how many a report has, eleven for each fluid, and how many are kept of a sheet in parts with
+ * its report so far. */
 #define WOOLYARD_BOOK_BYTES 192
 #define WOOLYARD_SHEET_MOST_BYTES 65536
 #define WOOLYARD_SECTION_MOST_STATES 1000
+#define WOOLYARD_CURSOR 3
 #define WOOLYARD_PARTS 8
 #define WOOLYARD_REPORT 33
 #define WOOLYARD_REPORTING 44
+
+/* The archive's own WOOLYARD_ABI. */
+uint64_t woolyard_abi(void);
 
 /* The reply to a state: its five figures, which are zeros where it is refused.
  * Answers 0, 1, 21, 22, 31 or 32; the first refusal in this order that applies is given. */
@@ -177,6 +188,17 @@ uint64_t woolyard_sheet(const uint8_t *sheet, size_t length, uint64_t reading[3]
  * in range or not; zeros where refused. Answers 0, 6, 7 or 16: 7 comes before 6, and 6 before 16, which is given exactly when the sheet is
  * good and k is not below the number of state lines. */
 uint64_t woolyard_sheet_line(const uint8_t *sheet, size_t length, uint64_t k, uint64_t state[3]);
+
+/* The next state line of a sheet, from where a cursor stands: a walk over all state lines reads the sheet once. The cursor is three numbers:
+ * zeros stand at the start, and what an answered call leaves stands behind the line that it told. It may hold any numbers at all; the library
+ * never relies on it. Answers 0 with the line's fluid, temperature in millikelvin and pressure in pascals as written, in range or not, and
+ * moves the cursor behind the line; 16 where no state line is left, which from zeros on says that the sheet is good; 6 where the line
+ * that begins next can't stand there; 7 for a sheet longer than 65,536 bytes, whatever the cursor. Where it does not answer 0, the state is
+ * zeros and the cursor is left as it was. Lines before a fault are told, and the fault when it is reached: woolyard_sheet tells it first, with its place.
+ *   cursor[0]  how many sections were begun
+ *   cursor[1]  how many state lines the last of them still lacks
+ *   cursor[2]  the place of the line's first byte */
+uint64_t woolyard_sheet_next(const uint8_t *sheet, size_t length, uint64_t cursor[WOOLYARD_CURSOR], uint64_t state[3]);
 
 /* Reads a sheet that arrives in parts, any bytes in any pieces, some perhaps empty, and answers each state as its line ends. All that is kept
  * between two calls are the numbers of `parts`: zeros before the first byte, and then what the last call left. They may be copied, kept as long

@@ -1,6 +1,6 @@
 // Prints what `engine::solve` answers for each point of standard input, a line "a b start", and last
 // how many points there were. The gate holds the output to what a scan of the whole grid answers
-// (host/README.md says how to make that again).
+// (host/checks/stored makes that again).
 use engine::Solution;
 use libc::STDIN_FILENO;
 use libc::STDOUT_FILENO;

@@ -1,7 +1,7 @@
 // Prints what `heat::ideal_heat_capacity` answers for each line of standard input, a double by its
 // pattern of 64 bits in hexadecimal: the pattern of the answer, or NO and the number of the refusal.
 // Last it prints how many lines there were. The gate holds the output to what another implementation
-// answers (host/README.md says how to make that again).
+// answers (host/checks/stored makes that again).
 use heat::HeatCapacity;
 use libc::STDIN_FILENO;
 use libc::STDOUT_FILENO;

@@ -2,7 +2,7 @@
 // the place of the whole sheet, its faulty line between brackets, and then the number, the state and the
 // place for each of its state lines, for the one past the last and for the largest number there is. A
 // sheet ends at a `~`, which no sheet here holds. Last it prints how many sheets there were. The gate
-// holds the output to what another implementation answers (host/README.md says how to make that again).
+// holds the output to what another implementation answers (host/checks/stored makes that again).
 use libc::STDIN_FILENO;
 use libc::STDOUT_FILENO;
 ghost use Prim.Native.Nat.{_≤_};

@@ -2,7 +2,7 @@
 // begins full of misleading numbers. A line is a question, "fluid millikelvin pascals slot", and then the
 // number and the five figures of the reply. The first line is the book before, byte for byte, the last two
 // are the book after and how many states there were. The gate holds the output to what a second implementation
-// answers, which never looks at a book (host/README.md says how to make that again).
+// answers, which never looks at a book (host/checks/stored makes that again).
 mod tables;
 
 use crate::tables::LARGEST;

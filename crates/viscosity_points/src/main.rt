@@ -1,7 +1,7 @@
 // Prints what `viscosity::excess_factor` answers to every density from 0 to 4000 thousandths, and to large
 // numbers. A line is the density, the number of the reply and the factor; the last line is how many
 // densities there were. The gate holds the output to what a second implementation answers in exact
-// fractions (host/README.md says how to make that again).
+// fractions (host/checks/stored makes that again).
 use libc::STDOUT_FILENO;
 ghost use mathlib.Core.Path.{_≡_};
 

@@ -1,4 +1,4 @@
-//! The wrappers in use: what host/examples/woolyard_example.c does, in Rust.
+//! The wrappers in use: what host/c/example.c does, in Rust.
 
 use woolyard::{
     Answer, Claim, Fault, FaultySheet, Fluid, Kind, Parts, Refusal, Report, Reporting,

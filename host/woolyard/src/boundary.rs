@@ -1,4 +1,4 @@
-//! The eighteen functions of include/woolyard.h, as they are: numbers in, the reply's number out, and the
+//! The twenty functions of include/woolyard.h, as they are: numbers in, the reply's number out, and the
 //! figures in the places that the caller lends. All that is unsafe stands here.
 //!
 //! The header asks that a pointer points to as many elements as its array or its length says, that it
@@ -23,6 +23,9 @@ pub const BAND_ROOTS: usize = 2;
 /// How many lists a sheet is written from, two for each fluid.
 pub const SHEET_LISTS: usize = 6;
 
+/// How many numbers a cursor over a sheet has.
+pub const CURSOR: usize = 3;
+
 /// How many numbers are kept of a sheet between two of its parts.
 pub const PARTS: usize = 8;
 
@@ -42,6 +45,7 @@ pub const REPORTING: usize = 44;
 
 mod foreign {
     extern "C" {
+        pub fn woolyard_abi() -> u64;
         pub fn woolyard_state(
             fluid: u64,
             millikelvin: u64,
@@ -112,6 +116,12 @@ mod foreign {
             k: u64,
             state: *mut [u64; 3],
         ) -> u64;
+        pub fn woolyard_sheet_next(
+            sheet: *const u8,
+            length: usize,
+            cursor: *mut [u64; super::CURSOR],
+            state: *mut [u64; 3],
+        ) -> u64;
         pub fn woolyard_parts_take(
             parts: *mut [u64; super::PARTS],
             part: *const u8,
@@ -155,6 +165,13 @@ mod foreign {
             length: *mut u64,
         ) -> u64;
     }
+}
+
+/// `woolyard_abi`: the archive's own number of what C sees of it.
+#[inline]
+pub fn abi() -> u64 {
+    // SAFETY: nothing is lent.
+    unsafe { foreign::woolyard_abi() }
 }
 
 /// `woolyard_state`: kind, gas root, dense root, gas density and dense density.
@@ -313,6 +330,15 @@ pub fn sheet(sheet: &[u8], reading: &mut [u64; 3]) -> u64 {
 pub fn sheet_line(sheet: &[u8], k: u64, state: &mut [u64; 3]) -> u64 {
     // SAFETY: as for `sheet`, with `state` for `reading`.
     unsafe { foreign::woolyard_sheet_line(sheet.as_ptr(), sheet.len(), k, state) }
+}
+
+/// `woolyard_sheet_next`: fluid, temperature in millikelvin and pressure in pascals of the next state line, and the cursor
+/// behind it, which may be any numbers and is left alone where there is none.
+#[inline]
+pub fn sheet_next(sheet: &[u8], cursor: &mut [u64; CURSOR], state: &mut [u64; 3]) -> u64 {
+    // SAFETY: `sheet` has the bytes that its length says and none is written; `cursor` and `state` are the places that
+    // are, and lie apart from it and from each other, since they are `&mut`.
+    unsafe { foreign::woolyard_sheet_next(sheet.as_ptr(), sheet.len(), cursor, state) }
 }
 
 /// `woolyard_parts_take`: any bytes as the next of a sheet that arrives in parts, and any numbers as what is kept of it;

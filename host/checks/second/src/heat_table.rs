@@ -95,7 +95,7 @@ mod tests {
         }
     }
 
-    /// The sum and the sum of kelvin times entry are those of the table that host/heat_table.py prints.
+    /// The sum and the sum of kelvin times entry are those of the table that host/checks/heat_table.py prints.
     #[test]
     fn entries() {
         assert_eq!(ENTRIES.len(), 987);

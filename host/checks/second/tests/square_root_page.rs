@@ -2,9 +2,9 @@
 //! here, its table is followed from row to row, and the code's comment and the theorems are held to the
 //! same rows.
 
-const PAGE: &str = include_str!("../../../docs/SQUARE-ROOT.md");
-const CODE: &str = include_str!("../../../crates/squares/src/lib.rt");
-const THEOREMS: &str = include_str!("../../../crates/squares/proofs/Worked.antt");
+const PAGE: &str = include_str!("../../../../docs/SQUARE-ROOT.md");
+const CODE: &str = include_str!("../../../../crates/squares/src/lib.rt");
+const THEOREMS: &str = include_str!("../../../../crates/squares/proofs/Worked.antt");
 
 /// The number whose root is taken.
 const N: u64 = 10_000 * 7763;

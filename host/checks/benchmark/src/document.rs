@@ -66,7 +66,7 @@ doubles, with the cubic solver of the GNU Scientific Library (GSL).
 
 - Machine: {model}, x86-64.
 - GSL: {version}, the shared library.
-- Written by `host/benchmark/run`. All figures are of one run; those of time differ from run to run.
+- Written by `host/checks/benchmark/run`. All figures are of one run; those of time differ from run to run.
 "
         )
     }
@@ -79,7 +79,7 @@ doubles, with the cubic solver of the GNU Scientific Library (GSL).
 - The seven kinds of call answer all states in each of {rounds} rounds, one kind after another, so that
   whatever else the machine does falls on all alike; {WARM_UP_ROUNDS} rounds before these aren't counted. A round's
   time divided by the number of states is its figure. The median round is the one that is judged.
-- The job in doubles, `host/benchmark/peer.c` by gcc with -O2, has the same questions, refusals, formulas
+- The job in doubles, `host/checks/benchmark/peer.c` by gcc with -O2, has the same questions, refusals, formulas
   and five figures, without the roundings to whole numbers.
 - A call for one side, gas or dense, answers the root and the density of that side and nothing else.
 - A book holds starting points, three bytes each, which change how long an answer takes and never what it

@@ -4,7 +4,7 @@ use std::env;
 use std::process::Command;
 
 /// The folder of woolyard.h, seen from this one.
-const INCLUDE: &str = "../../include";
+const INCLUDE: &str = "../../../include";
 
 fn main() {
     let out = env::var("OUT_DIR").expect("cargo names the folder for what is built");

@@ -1,8 +1,8 @@
 """Prints the table of woolyard_heat_table as crates/heat_table has it in src/entries.rt: hydrogen's ideal heat capacity at each whole
 kelvin from 14 to 1000, in whole J/(kg K). Each entry is the polynomial of document 01's Table 4 with its decimals as they are printed, in
-exact fractions, times 1000 and rounded down. The crate's table is proved to be that; `host/check` compares it with what is printed here.
+exact fractions, times 1000 and rounded down. The crate's table is proved to be that; `host/checks/check` compares it with what is printed here.
 
-    python3 host/heat_table.py
+    python3 host/checks/heat_table.py
 """
 from fractions import Fraction
 from math import floor

@@ -7,7 +7,7 @@ use std::process::Command;
 /// From the repository's root.
 const PROVED: &str = "target/bin/sheet";
 const SECOND: &str = "target/host/release/sheet";
-const FULL_SHEET: &str = "host/sheets/full.in";
+const FULL_SHEET: &str = "host/checks/sheets/full.in";
 
 /// How often each runs. The second implementation looks at every place of the grid and takes long; the
 /// proved one takes so little that a kernel which samples by ticks needs many runs to see it. An equal

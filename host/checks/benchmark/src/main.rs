@@ -1,6 +1,6 @@
 //! How long the proved library takes, beside the same job in doubles and the plain scan.
 //!
-//! Run from the repository's root by `host/benchmark/run`. It prints what it measured, writes the
+//! Run from the repository's root by `host/checks/benchmark/run`. It prints what it measured, writes the
 //! same to docs/BENCHMARK.md, and ends with status 1 where a bar is missed. With words, it times the
 //! shared objects of these names beside each other and writes no file.
 
