@@ -1,5 +1,5 @@
-// Reads a state sheet from standard input and writes what document 01 says of it, as the crate `printing`
-// has it.
+// Reads a state sheet from standard input and writes what docs/RULES.md says of it ("What the programs print"), as the
+// crate `printing` has it. What can't be read or written is told on standard error, and nothing else is.
 use libc::STDIN_FILENO;
 use libc::STDOUT_FILENO;
 use printing::LONGEST_TEXT;
@@ -8,8 +8,15 @@ use printing::print;
 fn main() {
     // One byte more than a sheet may have, so that a longer one is told.
     let mut input = [0u8; 65_537];
-    let read = io::read_full(STDIN_FILENO, &mut input);
+    let read = streams::read(STDIN_FILENO, &mut input);
+    if read.failed {
+        os::fail(b"sheet: the sheet was not read");
+        return;
+    }
+    let held = read.held;
     let mut text = [0u8; LONGEST_TEXT];
-    let written = print(&input[..read], &mut text);
-    io::write_all(STDOUT_FILENO, &text[..written]);
+    let written = print(&input[..held], &mut text);
+    if streams::write(STDOUT_FILENO, &text[..written]) < written {
+        os::fail(b"sheet: not all answers were written");
+    }
 }

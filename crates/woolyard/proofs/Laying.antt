@@ -1,5 +1,5 @@
 -- What a library tells of its reply, laid before the caller, keeps the boundary's promise. Assumes nothing.
-use mathlib.Core.Path.{_≡_, refl, ap, _∙_}
+use mathlib.Core.Path.{_≡_, refl, ap, subst, _∙_}
 use mathlib.Core.List.{List, _∷_, []}
 use Prim.Native.Nat.{ℕ}
 use lib.Ieee.{Float}
@@ -17,10 +17,11 @@ use Rattle.readings.specs.declared.Reading.{Reading}
 use Rattle.readings.specs.declared.LineReading.{LineReading}
 use Rattle.readings.specs.declared.SheetFigures.{SheetFigures}
 use Rattle.readings.specs.declared.LineFigures.{LineFigures}
-use Rattle.readings.specs.Figures.{sheetFigures, lineFigures}
-use Rattle.readings.specs.Replies.{ReadsAs, LineReadsAs, shown, ShowsBack}
+use Rattle.readings.specs.Figures.{sheetFigures, lineFigures, nextFigures}
+use Rattle.readings.specs.Replies.{ReadsAs, LineReadsAs, NextIs, shown, ShowsBack}
 use Rattle.state.specs.Replies.{Replies}
 use Rattle.sheets.specs.declared.State.{State}
+use Rattle.sheets.specs.declared.Next.{Next}
 use Rattle.parts.specs.declared.Reader.{Reader}
 use Rattle.parts.specs.declared.Brought.{Brought}
 use Rattle.parts.specs.declared.Brought.the-variants as Brought
@@ -31,6 +32,7 @@ use Rattle.woolyard.specs.States.{fiveOf, Laid}
 use Rattle.woolyard.specs.Sides.{twoOf, SideLaid}
 use Rattle.woolyard.specs.Heats.{bitsAfter, HeatAnswers}
 use Rattle.woolyard.specs.Sheets.{readingOf, SheetAnswers, stateOf, LineAnswers}
+use Rattle.woolyard.specs.Nexts.{cursorOf, nextNumber, cursorAfter, nextState, NextAnswers}
 use Rattle.woolyard.specs.Parts.{AnswersBrought, twoFiguresOf, EndAnswers}
 
 pub figures-laid : (reply : Reply) (told : Figures) → told ≡ figuresOf reply → Laid reply (told .number) (fiveOf told)
@@ -61,6 +63,17 @@ reading-laid bytes reply told line-length reads-as is is-length =
 pub line-of-reading : (bytes : List ℕ) (sheet part : ℕ) (line : List ℕ) (reply : Reading) → ReadsAs bytes (sheetFigures reply) → ShowsBack bytes sheet part line → length line ≡ length (shown bytes (sheetFigures reply))
 line-of-reading bytes sheet part line reply reads-as shows =
     rw (shows .is-line) (ap (λ (f : SheetFigures). length (shown bytes f)) (figures-determined bytes (shows .figures) (sheetFigures reply) (shows .reads-as) reads-as))
+
+-- what came next, as the case that the code found it to be
+pub next-laid : (bytes before : List ℕ) {told : Next} (next : Next) → told ≡ next → NextIs bytes (cursorOf before) (nextFigures told) → NextAnswers bytes before (nextNumber next) (cursorAfter before next) (nextState next)
+next-laid bytes before next same next-is =
+    record {
+      reply = next;
+      next-is = subst (λ (n : Next). NextIs bytes (cursorOf before) (nextFigures n)) same next-is;
+      is-number = refl;
+      is-after = refl;
+      is-state = refl;
+    }
 
 -- a line's answer, of which each figure was read from where the reply was laid
 pub brought-laid : {brought : Brought} (state : State) (reply : Reply) {number : ℕ} (five : List ℕ) {answer : List ℕ} → brought ≡ Brought.State state → Replies (state .fluid) (state .millikelvin) (state .pascals) (figuresOf reply) → Laid reply number five → answer ≡ state .fluid ∷ state .millikelvin ∷ state .pascals ∷ number ∷ getD five 0 0 ∷ getD five 1 0 ∷ getD five 2 0 ∷ getD five 3 0 ∷ getD five 4 0 ∷ [] → AnswersBrought brought answer

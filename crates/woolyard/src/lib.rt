@@ -3,6 +3,8 @@
 // a length, and an array or a number to write as a pointer.
 mod layout;
 
+ghost use mathlib.Core.Path.{_≡_};
+ghost use Rattle.woolyard.specs.Versions.{abi};
 ghost use Rattle.woolyard.specs.States.{StateAnswers, BookAnswers};
 ghost use Rattle.woolyard.specs.Sides.{SideAnswers, SideBookAnswers};
 ghost use Rattle.woolyard.specs.Walks.{WalkAnswers};
@@ -13,6 +15,7 @@ ghost use Rattle.woolyard.specs.Heats.{HeatAnswers};
 ghost use Rattle.woolyard.specs.HeatTables.{HeatTableAnswers};
 ghost use Rattle.woolyard.specs.Viscosities.{ViscosityAnswers};
 ghost use Rattle.woolyard.specs.Sheets.{SheetAnswers, LineAnswers};
+ghost use Rattle.woolyard.specs.Nexts.{NextAnswers};
 ghost use Rattle.woolyard.specs.Parts.{TakeAnswers, EndAnswers};
 ghost use Rattle.woolyard.specs.Reports.{ReportAnswers, ReportTakeAnswers, ReportEndAnswers};
 ghost use Rattle.measures.specs.Columns.{fluidsOf};
@@ -23,6 +26,16 @@ use crate::layout::lay_line;
 use crate::layout::lay_report;
 use crate::layout::lay_side;
 use heat::HeatCapacity;
+use sheets::Cursor;
+use sheets::Next;
+
+// A caller that was compiled with another number than this would misread what is answered.
+#[no_mangle]
+pub extern "C" fn woolyard_abi() -> u64
+    ensures { λ r. ⌜ r ≡ abi ⌝ }
+{
+    1
+}
 
 // The reply to a state: the array gets its kind, its two roots and their densities.
 #[no_mangle]
@@ -201,6 +214,40 @@ pub extern "C" fn woolyard_sheet_line(sheet: &[u8], k: u64, state: &mut [u64; 3]
     let told = reply.figures();
     *state = [told.fluid, told.millikelvin, told.pascals];
     told.number
+}
+
+// The next state line of a sheet from a cursor on, which any numbers may be: the second array gets its fluid,
+// temperature and pressure, and the cursor moves behind it.
+#[no_mangle]
+pub extern "C" fn woolyard_sheet_next(
+    sheet: &[u8],
+    cursor: &mut [u64; 3],
+    state: &mut [u64; 3],
+) -> u64
+    ensures { λ r. ⌜ NextAnswers (now (sheet .entry)) (now (cursor .entry)) r (now (cursor .exit)) (now (state .exit)) ⌝ }
+{
+    let begun = cursor[0];
+    let left = cursor[1];
+    let place = cursor[2] as usize;
+    match reader::next(sheet, Cursor { begun, left, place }) {
+        Next::State { state: line, after } => {
+            *cursor = [after.begun, after.left, after.place as u64];
+            *state = [line.fluid, line.millikelvin, line.pascals];
+            0
+        }
+        Next::Over => {
+            *state = [0; 3];
+            16
+        }
+        Next::Malformed { place: _ } => {
+            *state = [0; 3];
+            6
+        }
+        Next::TooLong => {
+            *state = [0; 3];
+            7
+        }
+    }
 }
 
 // A part of a sheet, up to the end of a state line or to its own: the first array gets what is kept of the sheet,
