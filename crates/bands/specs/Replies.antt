@@ -1,4 +1,4 @@
--- Document 02, C-22: what comes back of a band, and when. A refusal brings its number and zeros.
+-- docs/RULES.md, "The band": what comes back of a band, and when. A refusal brings its number and zeros.
 use mathlib.Core.Path.{_≡_}
 use Prim.Native.Nat.{ℕ}
 use Rattle.refusals.specs.Checks.{Tells}

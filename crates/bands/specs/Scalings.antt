@@ -1,4 +1,4 @@
--- Document 02, C-22: a scaled by whole numbers of thousandths, the gas root that a state then has, and what a band is checked for, in the paper's order.
+-- docs/RULES.md, "The band": a scaled by whole numbers of thousandths, the gas root that a state then has, and what a band is checked for, in order.
 use mathlib.Core.Logic.{_⊎_}
 use mathlib.Core.List.{List, [], _∷_, _++_}
 use Prim.Native.Nat.{ℕ, _*_, _/_, _≤_, _<_}

@@ -1,5 +1,5 @@
-// What if the attraction is a little off (document 02, C-22): the gas root of a state at two scalings of its
-// a, between which lies that of every scaling between them.
+// What if the attraction is a little off (docs/RULES.md, "The band"): the gas root of a state at two
+// scalings of its a, between which lies that of every scaling between them.
 mod replies;
 
 ghost use Rattle.cubic.specs.Cubic.{GasRoot};

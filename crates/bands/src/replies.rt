@@ -1,4 +1,4 @@
-// What is answered, and the paper's number and figures for it.
+// What is answered, and the number and figures for it.
 ghost use mathlib.Core.Path.{_≡_};
 ghost use Rattle.bands.specs.Replies.{figuresOf};
 use refusals::Refusal;

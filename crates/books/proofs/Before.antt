@@ -1,4 +1,4 @@
--- Before document 02's C-19 the book was 64 numbers of 32 bits (document 01, "The book of starting points"). It stands here for the theorems that
+-- Before the book was 192 bytes it was 64 numbers of 32 bits. It stands here for the theorems that
 -- lay the book in bytes beside it (`state`). Assumes nothing.
 use native.Mathlib.Omega.{arith}
 use lib.ListN.{getD, set, length-set}

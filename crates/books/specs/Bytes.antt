@@ -1,4 +1,4 @@
--- Document 02, C-19: the book is 192 bytes, three to a slot, lowest first. Slot k has bytes 3 k, 3 k + 1 and 3 k + 2.
+-- docs/RULES.md, "The book": it is 192 bytes, three to a slot, lowest first. Slot k has bytes 3 k, 3 k + 1 and 3 k + 2.
 use mathlib.Core.List.{List}
 use Prim.Native.Nat.{ℕ, _+_, _*_, _/_, _%_}
 use lib.ListN.{getD, set}

@@ -1,4 +1,4 @@
--- Document 01, "The book of starting points", whatever a slot is made of.
+-- docs/RULES.md, "The book", whatever a slot is made of.
 use mathlib.Core.Path.{_≡_}
 use mathlib.Core.Logic.{_⊎_}
 use mathlib.Core.List.{List, [], _∷_}

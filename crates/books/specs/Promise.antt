@@ -1,4 +1,4 @@
--- What the functions on the book promise.
+-- docs/RULES.md, "The book": what the functions on the book promise.
 use mathlib.Core.Path.{_≡_}
 use mathlib.Core.Logic.{_⊎_}
 use mathlib.Core.Bool.{Bool, true, false}

@@ -1,4 +1,4 @@
-// The book of starting points (document 01; document 02, C-19): 192 bytes that the page lends, three to a
+// The book of starting points (docs/RULES.md, "The book"): 192 bytes that the page lends, three to a
 // slot, the lowest first. What a slot says is a place to look first; an answered call leaves its gas root
 // there.
 ghost use mathlib.Core.Path.{_≡_};

@@ -1,4 +1,4 @@
--- A text put into a buffer from a place on. How a number is written, the grammar of `sheets` says.
+-- docs/RULES.md, "A sheet written": a text put into a buffer from a place on. How a number is written, the grammar of `sheets` says.
 use mathlib.Core.Path.{_≡_}
 use mathlib.Core.List.{List, _++_}
 use Prim.Native.Nat.{ℕ, _+_, _≤_, _<_}

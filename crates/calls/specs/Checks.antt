@@ -1,4 +1,4 @@
--- What a call is checked for behind its state, before the slot of its book: the side it names (document 02, C-18).
+-- What a call is checked for behind its state, before the slot of its book: the side it names (docs/RULES.md, "Sides").
 use mathlib.Core.Path.{_≡_}
 use mathlib.Core.List.{List, [], _∷_}
 use Rattle.refusals.specs.Checks.{Check, _if_}

@@ -1,5 +1,5 @@
--- What `find` and `find_with_book` promise, of what their answers come back as. No starting point occurs here, and of the book at entry what is
--- found knows the length alone.
+-- docs/RULES.md, "Sides" and "The book": what `find` and `find_with_book` promise, of what their answers come back as. No starting point occurs
+-- here, and of the book at entry what is found knows the length alone.
 use mathlib.Core.Path.{_≡_}
 use mathlib.Core.List.{List, _++_}
 use Prim.Native.Nat.{ℕ}

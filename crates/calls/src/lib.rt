@@ -1,5 +1,5 @@
 // What the calls on a state share, whichever form they have: the checks behind the state's own, in the
-// paper's order, and what they leave in the book of starting points (document 01; document 02, C-18).
+// rules' order, and what they leave in the book of starting points (docs/RULES.md, "Sides" and "The book").
 ghost use Rattle.roots.specs.Promise.{finding};
 ghost use Rattle.calls.specs.Promise.{FindsAs, FindsWithBook};
 ghost use Rattle.calls.specs.Inside.{Stands};

@@ -1,5 +1,5 @@
--- A claim beside a call for its side (document 02, C-18): it stands exactly where the call is answered with its root, and so for both sides of a ONE state or
--- for neither. In a SPLIT state that g crosses at the root is not enough. Assumes nothing.
+-- A claim beside a call for its side (docs/RULES.md, "Sides"): it stands exactly where the call is answered with its root, and so for both sides of
+-- a ONE state or for neither. In a SPLIT state that g crosses at the root is not enough. Assumes nothing.
 use mathlib.Core.Path.{_≡_, refl, sym, ap, subst, _∙_}
 use mathlib.Core.Logic.{_↔_}
 use Prim.Native.Nat.{ℕ, zero, suc}

@@ -1,4 +1,4 @@
--- Document 02, C-23: a claim, when it stands, and what it is checked for, in the paper's order.
+-- docs/RULES.md, "Claims": a claim, when it stands, and what it is checked for, in order.
 use mathlib.Core.Path.{_≡_}
 use mathlib.Core.List.{List, [], _∷_, _++_}
 use Prim.Native.Nat.{ℕ}
@@ -32,7 +32,7 @@ abbrev pub sideChecks : Claim → List Check
 sideChecks claim =
     stateChecks (claim .fluid) (claim .millikelvin) (claim .pascals) ++ formChecks (Side (claim .side))
 
--- "exactly if the state is accepted and the root is that side's"
+-- its state is accepted, its side is one of the two, and its root is that side's own
 pub record Stands (claim : Claim) : Type 0 where
   pub accepted : NoneOf (sideChecks claim)
   pub is-own : SideRoot claim (claim .root)

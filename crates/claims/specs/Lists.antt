@@ -1,4 +1,4 @@
--- Document 02, C-23: a list of claims, which comes as five lists of numbers.
+-- docs/RULES.md, "Claims": a list of claims, which comes as five lists of numbers.
 use mathlib.Core.Path.{_≡_}
 use mathlib.Core.Logic.{_⊎_}
 use mathlib.Core.List.{List}

@@ -1,5 +1,5 @@
--- Document 02, C-23: what comes back of a list of claims, and when: 8 before all, then the first claim that is refused, by its number in the list, or that all
--- stand.
+-- docs/RULES.md, "Claims": what comes back of a list of claims, and when: 8 before all, then the first claim that is refused, by its number in the
+-- list, or that all stand.
 use mathlib.Core.Path.{_≡_}
 use mathlib.Core.List.{List, [], _∷_}
 use Prim.Native.Nat.{ℕ, _<_}

@@ -1,6 +1,6 @@
-// Roots that other programs gave, checked (document 02, C-23): a list of claims, each a fluid, a temperature,
-// a pressure, a side and a root, any numbers at all, as five lists. The lists are read once, claim by claim,
-// up to the first that is refused.
+// Roots that other programs gave, checked (docs/RULES.md, "Claims"): a list of claims, each a fluid, a
+// temperature, a pressure, a side and a root, any numbers at all, as five lists. The lists are read once,
+// claim by claim, up to the first that is refused.
 mod judging;
 mod reply;
 

@@ -1,6 +1,6 @@
--- What more attraction does to the roots (document 02, C-22): for the same b, when a grows, neither the gas root nor the dense root grows. With the
--- larger a, g has N (a' - a) (z - b) more, which is not negative from b on, and no crossing lies below b. No bound is asked of a, a' or b, and the law
--- holds for b = 0 too. Assumes nothing.
+-- What more attraction does to the roots (docs/RULES.md, "The band"): for the same b, when a grows, neither the gas root nor the dense root grows.
+-- With the larger a, g has N (a' - a) (z - b) more, which is not negative from b on, and no crossing lies below b. No bound is asked of a, a' or b,
+-- and the law holds for b = 0 too. Assumes nothing.
 use mathlib.Core.Path.{_≡_}
 use Prim.Native.Nat.{ℕ, zero, suc, _+_, _*_, _-_, _≤_, _<_}
 use native.Mathlib.Nat.{add-zero, zero-add, add-suc, add-sub-of-le, mul-le-mul-left}

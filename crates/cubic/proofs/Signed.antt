@@ -1,4 +1,4 @@
--- The one law that ties the signed g of document 01 to its two halves over naturals: g(z) = plus(z) - minus(z).
+-- The one law that ties the signed g of the rules to its two halves over naturals: g(z) = plus(z) - minus(z).
 -- After this file nothing is signed. Assumes nothing.
 use mathlib.Core.Path.{_≡_, refl, ap}
 use mathlib.Core.Bool.{Bool, true, false, cond}

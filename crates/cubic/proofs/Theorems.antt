@@ -1,5 +1,5 @@
 -- What is proved of the definitions of `specs/Cubic.antt`, for every a and every b: where g is positive, that there is one gas root and
--- one dense root, and that no crossing goes unreported. Document 01 wants it for b of at least 1; it holds for 0 too.
+-- one dense root, and that no crossing goes unreported. The rules need it for b of at least 1; it holds for 0 too.
 -- Last, that two roots have one kind. Assumes nothing.
 use mathlib.Core.Path.{_≡_, refl}
 use mathlib.Core.Logic.{_⊎_, inl, inr}

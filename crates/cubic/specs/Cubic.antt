@@ -1,4 +1,4 @@
--- Document 01, "From a state to the cubic", in its words and its order: the grid, g, a crossing, the gas root, the dense root, the kind.
+-- docs/RULES.md, "Crossings, roots and kinds", in its words and its order: the grid, g, a crossing, the gas root, the dense root, the kind.
 -- A root is said by its property; how it is found is nowhere here.
 use mathlib.Core.Path.{_≡_}
 use Prim.Native.Nat.{ℕ, _+_, _≤_, _<_}
@@ -8,7 +8,7 @@ use lib.IntN.{ℤ, pos, negsuc, _+ℤ_, _-ℤ_, _*ℤ_}
 abbrev pub N : ℕ
 N = 100000
 
--- equation (2.1-11) of TM-564, times N cubed, as document 01 writes it, over signed integers
+-- equation (2.1-11) of TM-564, times N cubed, as the rules write it, over signed integers
 unfoldable pub polynomial : ℤ → ℤ → ℤ → ℤ → ℤ
 polynomial n a b z =
     z *ℤ z *ℤ z -ℤ n *ℤ z *ℤ z +ℤ (n *ℤ a -ℤ b *ℤ b -ℤ n *ℤ b) *ℤ z -ℤ n *ℤ a *ℤ b

@@ -1,5 +1,5 @@
--- What an engine for the cubic promises: the two roots of the definitions, for a and b within bounds for which 64 bits suffice.
--- No starting point occurs here.
+-- docs/RULES.md, "Crossings, roots and kinds": what an engine for the cubic promises, the two roots of the definitions, for a and b within
+-- bounds for which 64 bits suffice. No starting point occurs here.
 use Prim.Native.Nat.{ℕ, _≤_}
 use Rattle.cubic.specs.Cubic.{GasRoot, DenseRoot}
 

@@ -1,5 +1,5 @@
 -- g in two halves over naturals, g(z) = plus(z) - minus(z), and what the searches ask and promise of them. What `engine` promises is not
--- stated by this file: `proofs/Signed.antt` ties the halves to the g that document 01 writes.
+-- stated by this file: `proofs/Signed.antt` ties the halves to the g that the rules write.
 use mathlib.Core.Path.{_≡_}
 use Prim.Native.Nat.{ℕ, suc, _+_, _*_, _-_, _≤_, _<_}
 use Rattle.cubic.specs.Cubic.{N}

@@ -1,7 +1,7 @@
-// The Redlich-Kwong cubic of document 01: its definitions (specs/) and the laws about them (proofs/). Of code it
-// has what every engine shares, the constants: the engines find what is proved here proved.
+// The Redlich-Kwong cubic of docs/RULES.md: its definitions (specs/) and the laws about them (proofs/). Of
+// code it has what every engine shares, the constants: the engines find what is proved here proved.
 
-// The grid N of document 01, and the place a third up at which g bends.
+// The grid N of the rules, and the place a third up at which g bends.
 pub const GRID: u64 = 100_000;
 
 pub const BEND: u64 = 33_333;

@@ -1,4 +1,4 @@
--- Document 02's C-16 oversells no order: no density is above the one with document 01's gas constant, 8314. Assumes nothing.
+-- The gas constant oversells no order: no density is above the one with the memorandum's, 8314. Assumes nothing.
 use mathlib.Core.Path.{_≡_}
 use Prim.Native.Nat.{ℕ, _*_, _/_, _≤_}
 use native.Mathlib.Nat.{le-refl, mul-div-mul-left}
@@ -14,7 +14,7 @@ unfoldable pub densityBefore : Fluid → (millikelvin pascals root : ℕ) → �
 densityBefore fluid millikelvin pascals root =
     molarMass fluid * 1000000 * pascals / (8314 * root * millikelvin)
 
--- document 01, "Densities", has half of the molar mass over half of 8314
+-- as it was written: half of the molar mass over half of 8314
 halved : (half millikelvin pascals root : ℕ) → 2 * half * pascals / (8314 * root * millikelvin) ≡ half * pascals / (4157 * root * millikelvin)
 halved half millikelvin pascals root =
     let above : 2 * half * pascals ≡ 2 * (half * pascals) = omega arith in

@@ -1,5 +1,5 @@
--- Document 01, "Densities", with the gas constant of document 02's C-16: P x M x N x 1,000,000 over the gas constant x z x T, one division, one
--- rounding down, in grams per cubic metre.
+-- docs/RULES.md, "Densities": P x M x 1,000,000 over the gas constant x z x T, with M in hundred-thousandths; one division, one rounding down,
+-- in grams per cubic metre.
 use Prim.Native.Nat.{ℕ, _*_, _/_}
 use Rattle.fluid.specs.declared.choice.Fluid.{Fluid}
 use Rattle.fluid.specs.Figures.{molarMass}
@@ -8,7 +8,7 @@ use Rattle.fluid.specs.Figures.{molarMass}
 abbrev pub gasConstant : ℕ
 gasConstant = 8314462618
 
--- the paper's million, a thousand each for millikelvin and grams, and one for the gas constant's millionths
+-- one million is a thousand each for millikelvin and grams, and one is for the gas constant's millionths
 abbrev pub factorOfMolarMass : ℕ
 factorOfMolarMass = 1000000 * 1000000
 

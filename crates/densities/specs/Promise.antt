@@ -1,4 +1,4 @@
--- What `density_of` promises.
+-- docs/RULES.md, "Densities": what `density_of` promises.
 use mathlib.Core.Path.{_≡_}
 use Prim.Native.Nat.{ℕ, _≤_, _<_}
 use Rattle.fluid.specs.declared.choice.Fluid.{Fluid}

@@ -1,4 +1,4 @@
-// The density of a root (document 01, "Densities"; document 02, C-16, for the gas constant).
+// The density of a root (docs/RULES.md, "Densities").
 ghost use mathlib.Core.Path.{_≡_};
 ghost use Prim.Native.Nat.{_*_, _/_, _%_, _≤_};
 ghost use Rattle.fluid.specs.Figures.{highest};

@@ -1,4 +1,4 @@
-// What a line's bytes come to, taken one at a time (document 01, "State sheets"). A line of either kind is
+// What a line's bytes come to, taken one at a time (docs/RULES.md, "Sheets"). A line of either kind is
 // read by the same steps, and a digest may be kept between two parts of a line.
 ghost use mathlib.Core.Path.{_≡_};
 ghost use lib.ListN.{drop};

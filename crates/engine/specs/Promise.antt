@@ -1,4 +1,5 @@
--- What `solve` promises: the two roots of the definitions, or that a or b lies outside the bounds. No starting point occurs here.
+-- docs/RULES.md, "Crossings, roots and kinds": what `solve` promises, the two roots of the definitions, or that a or b lies outside the bounds.
+-- No starting point occurs here.
 use Prim.Native.Nat.{ℕ}
 use Rattle.cubic.specs.Promise.{Within, BothRoots}
 use Rattle.engine.specs.declared.Solution.{Solution}

@@ -1,4 +1,4 @@
-// The engine for the Redlich-Kwong cubic of document 01: for every a and b within bounds, its largest and
+// The engine for the Redlich-Kwong cubic of docs/RULES.md: for every a and b within bounds, its largest and
 // its smallest crossing, whatever the starting point holds.
 mod shortcuts;
 

@@ -21,7 +21,7 @@ use Rattle.fluid.proofs.Fluids.{heaviest, cold, fits, fluidOf, number-o
 use Rattle.fluid.proofs.Accepting.{accepts, fluid-or-none}
 use Rattle.fluid.proofs.Ranges.{Bounds, spanned, bounds}
 
--- a number is a fluid's exactly up to 2, and 1 is told of any other (document 02, C-20)
+-- a number is a fluid's exactly up to 2, and 1 is told of any other
 pub fluid-up-to-two : (number : ℕ) → number ≤ 2 → (fluid : Fluid) × (number ≡ numberOf fluid)
 fluid-up-to-two number few = (fluidOf number, number-of-fluid number few)
 

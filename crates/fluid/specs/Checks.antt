@@ -1,4 +1,4 @@
--- Document 01, "Replies", and document 02, C-12: what a state is checked for before it is answered, in the paper's order.
+-- docs/RULES.md, "Replies": what a state is checked for before it is answered, in the order of its table.
 use mathlib.Core.Path.{_≡_}
 use mathlib.Core.List.{List, [], _∷_, _++_}
 use Prim.Native.Nat.{ℕ, _<_}

@@ -1,5 +1,4 @@
--- Document 01, "Constants that belong to each fluid", with the fluids' numbers ("What the page asks") and ranges ("Replies"); nitrogen by
--- document 02, C-20.
+-- docs/RULES.md, "Fluids": the number, the constants and the range of each fluid.
 use Prim.Native.Nat.{ℕ, _+_, _*_, _/_, _≤_}
 use Rattle.fluid.specs.declared.choice.Fluid.{Fluid}
 use Rattle.fluid.specs.declared.choice.Fluid.the-variants.{Hydrogen, Oxygen, Nitrogen}
@@ -22,7 +21,7 @@ lowered hot shift millikelvin =
     hot * m / (m + shift)
 
 -- Hydrogen's depend on the temperature (43.6 K and 21.8 K; 20.2 atm and 44.2 K), oxygen's are those of TM-564's Table 1 and
--- nitrogen's those of source document 000's Table 2.
+-- nitrogen's those of JAXA-RM-13-019's Table 2.
 abbrev pub criticalMillikelvin : Fluid → (millikelvin : ℕ) → ℕ
 criticalMillikelvin Hydrogen millikelvin = lowered 43600 2180000000 millikelvin
 criticalMillikelvin Oxygen millikelvin = 154576

@@ -1,4 +1,4 @@
--- What the public calls promise, of what their answers come back as.
+-- docs/RULES.md, "From a state to the cubic": what the public calls promise, of what their answers come back as.
 use mathlib.Core.Path.{_≡_}
 use Prim.Native.Nat.{ℕ}
 use Rattle.refusals.specs.Checks.{Outcome, with-value, with-number, Gives}

@@ -1,4 +1,4 @@
--- Document 01, "From a state to the cubic": t, p, s, a and b, in its words and its order.
+-- docs/RULES.md, "From a state to the cubic": t, p, s, a and b, in its order.
 use mathlib.Core.Path.{_≡_}
 use Prim.Native.Nat.{ℕ, _*_, _/_}
 use Rattle.squares.specs.SquareRoot.{SquareRoot}

@@ -28,7 +28,7 @@ pub(crate) struct Figures {
     pub critical_pascals: u64,
 }
 
-// The fluid that document 01 numbers so.
+// The fluid that docs/RULES.md, "Fluids", numbers so.
 pub fn of_number(number: u64) -> Numbered
     ensures { λ r. ⌜ Numbers number (numbered r) ⌝ }
 {

@@ -1,4 +1,4 @@
-// From a state to the coefficients of the cubic (document 01, "From a state to the cubic").
+// From a state to the coefficients of the cubic (docs/RULES.md, "From a state to the cubic").
 ghost use Rattle.fluid.specs.Figures.{numberOf};
 ghost use Rattle.fluid.specs.Promise.{reduction, ReducesTo};
 use crate::choice::Fluid;

@@ -1,5 +1,5 @@
-// Parahydrogen: its constants, and the two of them that depend on the temperature (document 01,
-// "Constants that belong to each fluid"; TM-564, equations (2.1-15) and (2.1-16)).
+// Parahydrogen: its constants, and the two of them that depend on the temperature (docs/RULES.md, "Fluids";
+// TM-564, Table 1 and equations (2.1-15) and (2.1-16)).
 ghost use mathlib.Core.Path.{_≡_};
 ghost use Prim.Native.Nat.{_≤_};
 ghost use Rattle.fluid.specs.Figures.{criticalMillikelvin, criticalPascals, hottest};

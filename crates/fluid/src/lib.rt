@@ -1,4 +1,4 @@
-// From a state to the cubic (document 01): the fluids' figures, the reduced numbers t, p and s, and the
+// From a state to the cubic (docs/RULES.md): the fluids' figures, the reduced numbers t, p and s, and the
 // coefficients a and b.
 mod choice;
 mod coefficients;

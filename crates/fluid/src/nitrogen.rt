@@ -1,4 +1,4 @@
-// Nitrogen: its constants (document 02, C-20; source document 000, Table 2).
+// Nitrogen: its constants (docs/RULES.md, "Fluids"; JAXA-RM-13-019, Table 2).
 use crate::choice::Figures;
 
 pub struct Nitrogen {}

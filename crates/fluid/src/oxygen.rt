@@ -1,4 +1,4 @@
-// Oxygen: its constants (document 01, "Constants that belong to each fluid"; TM-564, Table 1).
+// Oxygen: its constants (docs/RULES.md, "Fluids"; TM-564, Table 1).
 use crate::choice::Figures;
 
 pub struct Oxygen {}

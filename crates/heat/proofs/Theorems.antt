@@ -65,7 +65,7 @@ module _ (kelvin heat : Float) (answered : Answered kelvin heat) where
   answer-has-one-pattern pattern in-64-bits is-answer =
       sym (toBits-ofBits binary64 pattern in-64-bits (rw is-answer answer-is-no-nan)) ∙ ap (toBits binary64) is-answer
 
--- ---- document 01's point at 40 K, and the whole range that it is the end of
+-- ---- the rules' point at 40 K, and the whole range that it is the end of
 pub up-to-40-is-10-3121 : (kelvin : Float) → InRange kelvin → Holds up-to-40 kelvin → (reply : HeatCapacity) → Answers kelvin (comesBack reply) → reply ≡ KilojoulesPerKilogramKelvin (nearestDouble (plus 103121 4 0))
 up-to-40-is-10-3121 kelvin inside holds reply answers =
     in-range-is-answered kelvin inside up-to-40 holds reply answers ∙ ap KilojoulesPerKilogramKelvin (constant-up-to-40 kelvin (inside .is-number))

@@ -1,4 +1,4 @@
--- Document 01, "Hydrogen's ideal heat capacity": start at A5 and, for A4 down to A1, multiply by T and then add, each operation rounded once.
+-- docs/RULES.md, "Hydrogen's ideal heat capacity": start at A5 and, for A4 down to A1, multiply by T and then add, each operation rounded once.
 use lib.Ieee.{Float, binary64, add, mul}
 use Rattle.heat.specs.declared.table.Coefficients.{Coefficients}
 

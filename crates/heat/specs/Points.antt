@@ -1,5 +1,6 @@
--- Document 01's point at 40 K and the others where a slip would show: each end of a range and the double past it, and what is no number in
--- the range. A double is given by its bit pattern. That every point is met is `every-point-is-met`, in proofs/Points.antt.
+-- docs/RULES.md, "Hydrogen's ideal heat capacity": the point at 40 K and the others where a slip would show, each end of a range and the double
+-- past it, and what is no number in the range. A double is given by its bit pattern. That every point is met is `every-point-is-met`, in
+-- proofs/Points.antt.
 use mathlib.Core.Path.{_≡_}
 use mathlib.Core.List.{List, [], _∷_, _++_}
 use Prim.Native.Nat.{ℕ}

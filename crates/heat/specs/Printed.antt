@@ -1,5 +1,5 @@
--- TM-564, Table 4, as document 01 prints it: four ranges of the temperature, and the five coefficients of each. No double is here: every form of
--- the heat capacity cites these decimals.
+-- TM-564, Table 4, as docs/RULES.md, "Hydrogen's ideal heat capacity", has it: four ranges of the temperature, and the five coefficients of each.
+-- No double is here: every form of the heat capacity cites these decimals.
 use Prim.Native.Nat.{ℕ, _+_, _*_, _≤_, _<_}
 use mathlib.Core.Bool.{Bool, true, false}
 

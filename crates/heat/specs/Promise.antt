@@ -1,4 +1,4 @@
--- What a reply says of the temperature asked for, which is any double at all.
+-- docs/RULES.md, "Hydrogen's ideal heat capacity": what a reply says of the temperature asked for, which is any double at all.
 use mathlib.Core.Path.{_≡_}
 use Prim.Native.Nat.{ℕ, _*_, _≤_}
 use lib.Dec.{T}

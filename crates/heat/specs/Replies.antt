@@ -1,4 +1,4 @@
--- Document 01, "Replies": what comes back for each case of the answer, the double, or the number 5 and no double.
+-- docs/RULES.md, "Replies": what comes back for each case of the answer, the double, or the number 5 and no double.
 use Prim.Native.Nat.{ℕ}
 use lib.Ieee.{Float}
 use Rattle.heat.specs.declared.replies.HeatCapacity.{HeatCapacity}

@@ -1,4 +1,4 @@
--- Table 4 in doubles: which range holds a temperature, and the double nearest to each printed decimal.
+-- docs/RULES.md, "Hydrogen's ideal heat capacity": Table 4 in doubles, which range holds a temperature, and the double nearest to each decimal.
 use mathlib.Core.List.{List, _∷_, []}
 use Prim.Native.Nat.{_^_}
 use lib.Ieee.{Float, binary64, round}

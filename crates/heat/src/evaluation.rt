@@ -1,4 +1,4 @@
-// The polynomial of a row, in the one order of operations that document 01 fixes.
+// The polynomial of a row, in the one order of operations that docs/RULES.md fixes.
 ghost use mathlib.Core.Path.{_≡_};
 ghost use Rattle.heat.specs.Evaluation.{evaluated};
 use crate::table::Coefficients;

@@ -1,4 +1,4 @@
-// Hydrogen's ideal heat capacity (TM-564, Table 4; document 01, "Hydrogen's ideal heat capacity"): any
+// Hydrogen's ideal heat capacity (TM-564, Table 4; docs/RULES.md, under the same name): any
 // double at all is a temperature to ask for, and gets the table's double, bit for bit, or the refusal.
 mod evaluation;
 mod replies;

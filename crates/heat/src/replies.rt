@@ -1,4 +1,4 @@
-// What is answered, and the paper's number for it.
+// What is answered, and the number for it.
 ghost use mathlib.Core.Path.{_≡_};
 ghost use Rattle.heat.specs.Replies.{numberOf};
 

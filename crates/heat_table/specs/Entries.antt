@@ -1,5 +1,5 @@
--- Document 02, C-17: hydrogen's ideal heat capacity at each whole kelvin from 14 to 1000, a whole number of J/(kg K). An entry is said by its rule; the
--- table that holds them all is a constant of the program.
+-- docs/RULES.md, "The heat table": hydrogen's ideal heat capacity at each whole kelvin from 14 to 1000, a whole number of J/(kg K). An entry is said
+-- by its rule; the table that holds them all is a constant of the program.
 use Prim.Native.Nat.{ℕ, _^_, _≤_}
 use Rattle.heat.specs.Printed.{Row, Range, Within, printed}
 use Rattle.heat_table.specs.Fractions.{Fraction, exactly, _⊕_, _⊗_, RoundedDown}
@@ -20,7 +20,7 @@ polynomial row kelvin =
     ⊕ exactly (row .a4) ⊗ kelvin ^ 3
     ⊕ exactly (row .a5) ⊗ kelvin ^ 4
 
--- "the exact Table 4 polynomial with its printed decimals, times 1000, rounded down"
+-- the exact polynomial with the decimals as they are printed, times 1000, rounded down
 pub record Entry (kelvin heat : ℕ) : Type 0 where
   pub from-first : first ≤ kelvin
   pub to-last : kelvin ≤ last

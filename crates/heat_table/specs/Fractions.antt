@@ -1,4 +1,4 @@
--- Exact fractions: what is printed as a decimal is one, and so is what sums and products make of it. Document 02, C-17: rounded down.
+-- docs/RULES.md, "The heat table": exact fractions, rounded down. What is printed as a decimal is one, and so is what sums and products make of it.
 use Prim.Native.Nat.{ℕ, _+_, _*_, _^_}
 use mathlib.Core.Bool.{Bool, true, false}
 use lib.IntN.{ℤ, pos, negℤ, _+ℤ_, _*ℤ_}

@@ -1,4 +1,4 @@
--- Document 02, C-17: between whole kelvins the straight line between neighbours, rounded down.
+-- docs/RULES.md, "The heat table": between whole kelvins the straight line between neighbours, rounded down.
 use mathlib.Core.Path.{_≡_}
 use Prim.Native.Nat.{ℕ, _+_, _*_, _≤_, _<_}
 use Rattle.heat_table.specs.Entries.{Entry}
@@ -23,7 +23,7 @@ pub record HeatAt (millikelvin heat : ℕ) : Type 0 where
   pub is-above : Entry (kelvin + 1) above
   pub on-line : OnLine below above past heat
 
--- "it lies between those two entries, ends included", whichever of the two is larger
+-- it lies between the two entries, ends included, whichever of the two is larger
 pub data Between (below above heat : ℕ) : Type 0 where
   rising : below ≤ heat → heat ≤ above → Between below above heat
   falling : above ≤ heat → heat ≤ below → Between below above heat

@@ -1,4 +1,4 @@
--- Document 02, C-17: what comes back of a temperature, and when. A refusal brings its number and zero.
+-- docs/RULES.md, "The heat table": what comes back of a temperature, and when. A refusal brings its number and zero.
 use mathlib.Core.Path.{_≡_}
 use mathlib.Core.List.{List}
 use Prim.Native.Nat.{ℕ}
@@ -12,7 +12,7 @@ use Rattle.heat_table.specs.declared.replies.TableHeat.the-variants.{Jou
 use Rattle.heat_table.specs.declared.replies.TableFigures.{TableFigures}
 use Rattle.heat_table.specs.Line.{HeatAt}
 
--- "21 and 22 as for hydrogen"
+-- 21 and 22, by hydrogen's own range
 abbrev pub hydrogenChecks : (millikelvin : ℕ) → List Check
 hydrogenChecks millikelvin = temperatureChecks (numberOf Hydrogen) millikelvin
 

@@ -1,5 +1,6 @@
-// The table of document 02, C-17: hydrogen's ideal heat capacity in J/(kg K) at each whole kelvin from 14 to
-// 1000. No smaller type than 16 bits holds every entry. host/checks/heat_table.py prints the constant.
+// The table of docs/RULES.md, "The heat table": hydrogen's ideal heat capacity in J/(kg K) at each whole
+// kelvin from 14 to 1000. No smaller type than 16 bits holds every entry. host/checks/heat_table.py prints
+// the constant.
 ghost use Prim.Native.Nat.{_≤_};
 ghost use Rattle.heat_table.specs.Entries.{first, last, Entry};
 ghost use Rattle.heat_table.specs.Inside.{EveryEntry};

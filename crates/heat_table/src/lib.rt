@@ -1,5 +1,6 @@
-// Hydrogen's ideal heat capacity for a machine that has no doubles (document 02, C-17): any number at all is
-// a temperature to ask for, in millikelvin, and gets a whole number of J/(kg K) or a refusal.
+// Hydrogen's ideal heat capacity for a machine that has no doubles (docs/RULES.md, "The heat table"): any
+// number at all is a temperature to ask for, in millikelvin, and gets a whole number of J/(kg K) or a
+// refusal.
 mod entries;
 mod replies;
 

@@ -1,4 +1,4 @@
-// What is answered, and the paper's number and figure for it.
+// What is answered, and the number and figure for it.
 ghost use mathlib.Core.Path.{_≡_};
 ghost use Rattle.heat_table.specs.Replies.{figuresOf};
 use refusals::Refusal;

@@ -1,4 +1,4 @@
--- Document 02, C-15: a reader as eight numbers, and the reader that any eight numbers keep.
+-- docs/RULES.md, "A sheet in parts": a reader as eight numbers, and the reader that any eight numbers keep.
 use mathlib.Core.Bool.{cond}
 use mathlib.Core.List.{List, [], _∷_}
 use Prim.Native.Nat.{ℕ}

@@ -1,5 +1,6 @@
-// A reader of a sheet that arrives in parts, as eight numbers that its caller keeps between two of them (document
-// 02, C-15). Zeros are a reader before the first byte, and any numbers at all are some reader.
+// A reader of a sheet that arrives in parts, as eight numbers that its caller keeps between two of them
+// (docs/RULES.md, "A sheet in parts"). Zeros are a reader before the first byte, and any numbers at all are
+// some reader.
 ghost use mathlib.Core.Path.{_≡_};
 ghost use Rattle.kept.specs.Numbers.{digestOf, threeOf, readerOf, numbersOf};
 use parts::Reader;

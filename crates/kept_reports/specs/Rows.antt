@@ -1,4 +1,5 @@
--- Document 02, C-21: a report as rows of eleven numbers, and what is kept of a sheet with one more before them; and the sheet that any rows keep.
+-- docs/RULES.md, "The report": a report as rows of eleven numbers, and what is kept of a sheet with one more before them; and the sheet that any
+-- rows keep.
 use mathlib.Core.List.{List, [], _∷_, _++_}
 use Prim.Native.Nat.{ℕ}
 use lib.ListN.{getD}

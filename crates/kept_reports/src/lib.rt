@@ -1,6 +1,6 @@
-// A report as rows of eleven numbers, one for each section, and what is kept of a sheet that arrives in parts, as a
-// row more before them (document 02, C-21). Zeros are a sheet before its first byte, and any numbers at all are some
-// reader and some report.
+// A report as rows of eleven numbers, one for each section, and what is kept of a sheet that arrives in
+// parts, as a row more before them (docs/RULES.md, "The report"). Zeros are a sheet before its first byte,
+// and any numbers at all are some reader and some report.
 ghost use mathlib.Core.Path.{_≡_};
 ghost use Rattle.kept_reports.specs.Rows.{rowsOf, readerRow, keptRows, reportingOf};
 use parts::Reader;

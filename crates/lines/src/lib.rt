@@ -1,4 +1,4 @@
-// One line of a sheet (document 01, "State sheets"), read where a cursor stands.
+// One line of a sheet (docs/RULES.md, "Sheets"), read where a cursor stands.
 ghost use mathlib.Core.Path.{_≡_};
 ghost use Prim.Native.Nat.{_-_};
 ghost use Rattle.sheets.specs.Grammar.{allSections};

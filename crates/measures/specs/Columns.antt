@@ -1,4 +1,4 @@
--- Document 02, C-11: what is to be written, "for each fluid a list of temperatures and a list of pressures".
+-- docs/RULES.md, "A sheet written": what is to be written, for each fluid a list of temperatures and a list of pressures.
 use mathlib.Core.List.{List, [], _∷_, map}
 use Prim.Native.Nat.{ℕ}
 use Rattle.sheets.specs.Grammar.{Pair}

@@ -1,4 +1,4 @@
--- Document 02, C-11: what is told of lists, where there is room for so many bytes.
+-- docs/RULES.md, "A sheet written": what is told of lists, where there is room for so many bytes.
 use mathlib.Core.Path.{_≡_}
 use mathlib.Core.List.{List}
 use Prim.Native.Nat.{ℕ}

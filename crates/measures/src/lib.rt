@@ -1,5 +1,5 @@
-// What lists come to before a sheet is written from them (document 02, C-11): whether they may stand in one, and
-// how long it is. No buffer is lent to it, so nothing is written before a refusal.
+// What lists come to before a sheet is written from them (docs/RULES.md, "A sheet written"): whether they
+// may stand in one, and how long it is. No buffer is lent to it, so nothing is written before a refusal.
 mod fits;
 mod reply;
 mod sizes;
@@ -13,7 +13,7 @@ use readings::MOST_BYTES;
 pub use reply::WriteFigures;
 pub use reply::WriteReply;
 
-// What is told of the lists where there is room for so many bytes, in the paper's order.
+// What is told of the lists where there is room for so many bytes, in the order of the rules.
 pub fn measure(
     hydrogen_millikelvin: &[u64],
     hydrogen_pascals: &[u64],

@@ -1,4 +1,4 @@
--- How a line of the page is laid out: a label, left-aligned, and three cells, right-aligned, each in columns of its own.
+-- docs/RULES.md, "What the programs print": how a line of the page is laid out, a label, left-aligned, and three cells, right-aligned.
 use mathlib.Core.List.{List, [], _∷_, _++_}
 use Prim.Native.Nat.{ℕ, _+_, _-_, _*_}
 use lib.ListN.{length, replicate}

@@ -1,4 +1,4 @@
--- Document 02, C-21: the page about a whole sheet, as the program `report` prints it.
+-- docs/RULES.md, "What the programs print": the page about a whole sheet, as the program `report` prints it.
 use mathlib.Core.List.{List, [], _∷_, _++_}
 use Prim.Native.Nat.{ℕ, _*_}
 use Prim.Native.String.{String}

@@ -1,6 +1,6 @@
-// The page about a whole sheet, which the program `report` prints (document 02, C-21): a heading and eleven rows,
-// each a label and a figure of each section, in columns. Each private function fills some columns of the buffer from
-// a place on, and answers the place behind them.
+// The page about a whole sheet, which the program `report` prints (docs/RULES.md, "What the programs
+// print"): a heading and eleven rows, each a label and a figure of each section, in columns. Each private
+// function fills some columns of the buffer from a place on, and answers the place behind them.
 ghost use mathlib.Core.Path.{_≡_};
 ghost use Prim.Native.Nat.{_+_, _*_, _≤_};
 ghost use lib.ListN.{length};

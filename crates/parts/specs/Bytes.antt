@@ -1,4 +1,4 @@
--- Document 02, C-15: what one byte more does, by the rules in their order, and then what many do, one after another.
+-- docs/RULES.md, "A sheet in parts": what one byte more does, by the rules in their order, and then what many do, one after another.
 use mathlib.Core.Bool.{cond}
 use mathlib.Core.List.{List, [], _∷_, _++_}
 use Prim.Native.Nat.{ℕ, suc, _+_}

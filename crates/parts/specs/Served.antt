@@ -1,4 +1,4 @@
--- What a caller gets who goes on with the rest of a part wherever a state line ended, and then with the next part.
+-- docs/RULES.md, "A sheet in parts": what a caller gets who goes on with the rest of a part wherever a state line ended, and then with the next part.
 use mathlib.Core.Path.{_≡_}
 use mathlib.Core.List.{List, [], _∷_, _++_}
 use Prim.Native.Nat.{ℕ}

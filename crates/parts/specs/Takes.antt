@@ -1,4 +1,4 @@
--- Document 02, C-15: what a call tells of a part, and what is said of a sheet that is over, for any reader at all.
+-- docs/RULES.md, "A sheet in parts": what a call tells of a part, and what is said of a sheet that is over, for any reader at all.
 use mathlib.Core.Path.{_≡_}
 use mathlib.Core.Bool.{cond}
 use mathlib.Core.List.{List, [], _∷_}
@@ -38,7 +38,7 @@ TakesAs reader part Brought.Nothing taken after = UsesUp reader part taken after
 abbrev pub Takes : (reader : Reader) (part : List ℕ) → Taken → Type 0
 Takes reader part reply = TakesAs reader part (reply .brought) (reply .taken) (reply .reader)
 
--- the paper's number of what is told
+-- the number of what is told
 abbrev pub numberOfReader : Reader → ℕ
 numberOfReader (Open standing) = 16
 numberOfReader (Malformed place) = 6

@@ -1,5 +1,6 @@
-// Sheets that arrive in parts (document 02, C-15): the bytes come in any pieces, and each state is told as its
-// line ends. No line is kept: a reader has the digest of the line so far and a few numbers.
+// Sheets that arrive in parts (docs/RULES.md, "A sheet in parts"): the bytes come in any pieces, and each
+// state is told as its line ends. No line is kept: a reader has the digest of the line so far and a few
+// numbers.
 mod going;
 
 ghost use mathlib.Core.Path.{_≡_};
@@ -44,7 +45,7 @@ pub struct Taken {
 }
 
 impl Reader {
-    // The paper's number of a part that is used up: 16 where no fault was met so far, and a fault's own.
+    // The number of a part that is used up: 16 where no fault was met so far, and a fault's own.
     pub fn number(self) -> u64
         ensures { λ r. ⌜ r ≡ numberOfReader self ⌝ }
     {

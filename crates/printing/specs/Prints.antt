@@ -1,4 +1,4 @@
--- Document 01, "State sheets": what the program prints for any bytes at all: a line for each state line, or for a refused sheet only its own.
+-- docs/RULES.md, "What the programs print": what `sheet` prints for any bytes at all, a line for each state line, or for a refused sheet only its own.
 use mathlib.Core.Path.{_≡_}
 use mathlib.Core.List.{List, [], _∷_, _++_}
 use Prim.Native.Nat.{ℕ}

@@ -1,5 +1,5 @@
-// What the program `sheet` prints (document 01, "State sheets"): a line for each state line, or for a refused
-// sheet only its own. The crate `wording` has what stands in a line.
+// What the program `sheet` prints (docs/RULES.md, "What the programs print"): a line for each state line,
+// or for a refused sheet only its own. The crate `wording` has what stands in a line.
 ghost use Prim.Native.Nat.{_≤_};
 ghost use lib.ListN.{length, take};
 ghost use Rattle.io.specs.Counts.{Counts};

@@ -1,5 +1,5 @@
-// State sheets (document 01): any bytes at all are read as the sheet that they are, or refused with the
-// number, the place and the faulty line. No byte of a sheet is written.
+// State sheets (docs/RULES.md, "Sheets"): any bytes at all are read as the sheet that they are, or refused
+// with the number, the place and the faulty line. No byte of a sheet is written.
 mod cursors;
 
 ghost use mathlib.Core.Path.{_≡_};

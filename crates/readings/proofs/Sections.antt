@@ -54,7 +54,7 @@ module _ (bytes : List ℕ) (fits : length bytes ≤ mostBytes) (lists : List (L
     pub fewer-than-wanted : written < wanted → RefuseAt wanted bytes (length bytes)
     fewer-than-wanted fewer = at-fault (fault-at-end wanted bytes lists (good .writable) (omega (arith, good .has-sections)) (good .written))
 
-  -- Document 02, C-20: readers from before it wanted two sections.
+  -- Readers from before nitrogen wanted two sections.
   pub old-readers-refuse-at-the-third-count : Good allSections bytes lists → RefuseAt 2 bytes (length (sheet (take 2 lists)))
   old-readers-refuse-at-the-third-count good = more-than-wanted 2 allSections good (omega arith)
 

@@ -1,5 +1,5 @@
--- Document 01, "Replies": the paper's number of each answer about a sheet, and its figures. A refusal has zeros for every figure, but 6 has the
--- place of the fault.
+-- docs/RULES.md, "Replies": the number of each answer about a sheet, and its figures. A refusal has zeros for every figure, but 6 has the place
+-- of the fault.
 use mathlib.Core.Option.{Option, some, none}
 use Prim.Native.Nat.{ℕ}
 use Rattle.sheets.specs.declared.State.{State}

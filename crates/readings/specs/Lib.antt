@@ -1,4 +1,4 @@
--- What a reader must believe of the answers about a sheet: the paper's figures of each, and which of them any bytes at all are owed.
+-- What a reader must believe of the answers about a sheet: the figures of each, and which of them any bytes at all are owed.
 pub mod Figures
 pub mod Readers
 pub mod Replies

@@ -1,4 +1,4 @@
--- Document 01, "Replies" and "State sheets": what readers of so many sections tell of any bytes at all, in the paper's numbers and figures.
+-- docs/RULES.md, "Replies", "Sheets" and "A sheet walked": what readers of so many sections tell of any bytes at all, in numbers and figures.
 use mathlib.Core.Path.{_≡_}
 use mathlib.Core.Bool.{cond}
 use mathlib.Core.List.{List, [], _∷_, _++_}

@@ -1,4 +1,5 @@
--- What is answered to any bytes at all: what readers of all sections tell, and the bytes that are shown back.
+-- docs/RULES.md, "Sheets" and "A sheet walked": what is answered to any bytes at all, what readers of all sections tell, and the bytes that are
+-- shown back.
 use mathlib.Core.Path.{_≡_}
 use mathlib.Core.Bool.{cond}
 use mathlib.Core.List.{List, []}

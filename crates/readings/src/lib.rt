@@ -1,4 +1,4 @@
-// What is answered of a sheet (document 01, "Replies"), and what the paper's table says of each case.
+// What is answered of a sheet, and what docs/RULES.md, "Replies", says of each case.
 ghost use mathlib.Core.Path.{_≡_};
 ghost use Rattle.readings.specs.Figures.{sheetFigures, lineFigures, lineRefused};
 use sheets::State;
@@ -21,14 +21,14 @@ pub enum LineReading {
     TooLong,
 }
 
-// The paper's number of a reading, how many state lines, and the place of a fault.
+// The number of a reading, how many state lines, and the place of a fault.
 pub struct SheetFigures {
     pub number: u64,
     pub state_lines: u64,
     pub place: usize,
 }
 
-// The paper's number of a reply to a question for a state line, the state, and the place of a fault.
+// The number of a reply to a question for a state line, the state, and the place of a fault.
 pub struct LineFigures {
     pub number: u64,
     pub fluid: u64,

@@ -1,11 +1,11 @@
--- Document 01, "Replies": checks are made in an order, "the first that applies is given, and none is given otherwise". A call has a list of checks,
--- in the paper's order; what is said here is said of any such list.
+-- docs/RULES.md, "Replies": checks are made in an order, and "the first that applies is given, and none is given where none applies". A call has
+-- a list of checks, in that order; what is said here is said of any such list.
 use mathlib.Core.Path.{_≡_}
 use mathlib.Core.Logic.{_⊎_}
 use mathlib.Core.List.{List, [], _∷_}
 use Prim.Native.Nat.{ℕ}
 
--- a number of the paper's table, and when it applies
+-- a number of the table of replies, and when it applies
 pub record Check : Type 1 where
   pub number : ℕ
   pub Applies : Type 0

@@ -1,4 +1,4 @@
--- Document 01, "Replies", and document 02, C-12, C-14, C-18, C-22 and C-23: the number of each refusal of a state.
+-- docs/RULES.md, "Replies": the number of each refusal of a state.
 use Prim.Native.Nat.{ℕ}
 use Rattle.refusals.specs.declared.Refusal.{Refusal}
 use Rattle.refusals.specs.declared.Refusal.the-variants.{NoSuchFluid, TemperatureTooLow, TemperatureTooHigh, PressureTooLow, PressureTooHigh, NoSuchSide, NoSuchSlot, WalkCutShort, ScalingOutOfRange, RootDiffers}

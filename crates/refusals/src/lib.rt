@@ -1,5 +1,5 @@
-// The refusals of a state (document 01, "Replies"), and the paper's number of each. Which of them a call
-// gives is said by its list of checks (specs/Checks.antt), in the paper's order.
+// The refusals of a state (docs/RULES.md, "Replies"), and the number of each. Which of them a call
+// gives is said by its list of checks (specs/Checks.antt), in the rules' order.
 ghost use mathlib.Core.Path.{_≡_};
 ghost use Rattle.refusals.specs.Numbers.{numberOfRefusal};
 

@@ -1,4 +1,4 @@
--- Document 01, "Replies": the paper's number of each reply, and its five figures, which are zeros where the state is refused.
+-- docs/RULES.md, "Replies" and "Densities": the number of each reply, and its five figures, which are zeros where the state is refused.
 use Prim.Native.Nat.{ℕ}
 use Rattle.refusals.specs.Numbers.{numberOfRefusal}
 use Rattle.cubic.specs.Cubic.{Kind, ONE, SPLIT}

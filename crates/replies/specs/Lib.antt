@@ -1,3 +1,3 @@
--- What a reader must believe of a reply: the paper's number and figures of each of its cases, and what of them a side has.
+-- What a reader must believe of a reply: the number and figures of each of its cases, and what of them a side has.
 pub mod Figures
 pub mod Sides

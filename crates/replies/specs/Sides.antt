@@ -1,4 +1,4 @@
--- Document 02, C-18: a caller names a side, gas or dense, and gets what the whole reply has for it: its root and its density.
+-- docs/RULES.md, "Sides": a caller names a side, gas or dense, and gets what the whole reply has for it, its root and its density.
 use mathlib.Core.Path.{_≡_}
 use Prim.Native.Nat.{ℕ, zero, suc}
 use Rattle.refusals.specs.Numbers.{numberOfRefusal}

@@ -1,4 +1,4 @@
-// The reply to a state, and what the paper's table says of each of its cases.
+// The reply to a state, and what docs/RULES.md, "Replies", says of each of its cases.
 mod sides;
 
 ghost use mathlib.Core.Path.{_≡_};
@@ -26,7 +26,7 @@ pub enum Reply {
     Refused(Refusal),
 }
 
-// The paper's number of a reply, and its five figures.
+// The number of a reply, and its five figures.
 pub struct Figures {
     pub number: u64,
     pub kind: u64,

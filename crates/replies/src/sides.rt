@@ -1,4 +1,4 @@
-// The reply to a caller who names a side (document 02, C-18).
+// The reply to a caller who names a side (docs/RULES.md, "Sides").
 ghost use mathlib.Core.Path.{_≡_};
 ghost use Rattle.replies.specs.Sides.{forSide, sideFiguresOf};
 use refusals::Refusal;
@@ -23,7 +23,7 @@ pub enum SideReply {
     Refused(Refusal),
 }
 
-// The paper's number of the reply, and its two figures.
+// The number of the reply, and its two figures.
 pub struct SideFigures {
     pub number: u64,
     pub root: u64,

@@ -1,4 +1,5 @@
--- Document 02, C-21: what the program `report` prints for any bytes at all: the page of the report, or for a refused sheet what `sheet` prints.
+-- docs/RULES.md, "What the programs print": what `report` prints for any bytes at all, the page of the report, or for a refused sheet what `sheet`
+-- prints.
 use mathlib.Core.Path.{_≡_}
 use mathlib.Core.List.{List}
 use Prim.Native.Nat.{ℕ}

@@ -1,5 +1,5 @@
-// What the program `report` prints (document 02, C-21): the page of a sheet's report, or for a refused sheet what
-// `sheet` prints of it.
+// What the program `report` prints (docs/RULES.md, "What the programs print"): the page of a sheet's
+// report, or for a refused sheet what `sheet` prints of it.
 ghost use Prim.Native.Nat.{_≤_};
 ghost use lib.ListN.{length, take};
 ghost use Rattle.io.specs.Counts.{Counts};

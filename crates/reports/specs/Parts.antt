@@ -1,4 +1,5 @@
--- A report of a sheet that arrives in parts: what a part does to it, for any reader and any report at all, and what is said of a sheet that is over.
+-- docs/RULES.md, "The report", of a sheet that arrives in parts: what a part does to it, for any reader and any report at all, and what is said of a
+-- sheet that is over.
 use mathlib.Core.Path.{_≡_}
 use mathlib.Core.List.{List, [], _∷_}
 use Prim.Native.Nat.{ℕ}

@@ -1,5 +1,5 @@
--- Document 02, C-21: what is told of any bytes at all, taken for a sheet. Of a good one each section is reported by itself; a refused one has an empty
--- report.
+-- docs/RULES.md, "The report": what is told of any bytes at all, taken for a sheet. Of a good one each section is reported by itself; a refused one
+-- has an empty report.
 use mathlib.Core.Path.{_≡_}
 use mathlib.Core.List.{List, [], _∷_}
 use Prim.Native.Nat.{ℕ, suc, _+_}
@@ -38,7 +38,7 @@ Sections fluid line (pairs ∷ lists) sections =
 abbrev pub sectionsOf : Report → List Section
 sectionsOf report = report .hydrogen ∷ report .oxygen ∷ report .nitrogen ∷ []
 
--- the paper's number of each answer, the report, and the place of a fault
+-- the number of each answer, the report, and the place of a fault
 abbrev pub reportAnswered : Report → ReportFigures
 reportAnswered report = record { number = 0; report = report; place = 0 }
 

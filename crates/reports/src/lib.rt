@@ -1,5 +1,6 @@
-// One page about a whole sheet (document 02, C-21): what its states come to, fluid by fluid. A sheet may come whole
-// or in parts; either way the one step of `tallies` goes over its states, as their lines end.
+// One page about a whole sheet (docs/RULES.md, "The report"): what its states come to, fluid by fluid. A
+// sheet may come whole or in parts; either way the one step of `tallies` goes over its states, as their
+// lines end.
 mod told;
 
 ghost use mathlib.Core.Path.{_≡_};

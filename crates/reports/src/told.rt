@@ -10,7 +10,7 @@ pub enum Reported {
     TooLong,
 }
 
-// The paper's number, the report, and the place of a fault.
+// The number, the report, and the place of a fault.
 pub struct ReportFigures {
     pub number: u64,
     pub report: Report,

@@ -1,4 +1,4 @@
--- What `find` promises, of what its answer comes back as. No starting point occurs here.
+-- docs/RULES.md, "Crossings, roots and kinds": what `find` promises of a state, of what its answer comes back as. No starting point occurs here.
 use mathlib.Core.Path.{_≡_}
 use Prim.Native.Nat.{ℕ}
 use Rattle.refusals.specs.Checks.{Outcome, with-value, with-number, Gives}

@@ -1,4 +1,4 @@
--- The paper's words for a number, and `decimal`: each writable number is written so, and a text that is a number is the decimal of what it reads
+-- The rules' words for a number, and `decimal`: each writable number is written so, and a text that is a number is the decimal of what it reads
 -- as. Assumes nothing.
 use mathlib.Core.Path.{_≡_, refl, sym, ap, subst, _∙_}
 use mathlib.Core.Bool.{Bool, true, false}

@@ -1,4 +1,4 @@
--- Document 01, "State sheets": how a sheet is written from a list of states for each section. A good sheet is bytes that such lists write to.
+-- docs/RULES.md, "Sheets": how a sheet is written from a list of states for each section. A good sheet is bytes that such lists write to.
 use mathlib.Core.Path.{_≡_}
 use mathlib.Core.List.{List, [], _∷_, _++_}
 use mathlib.Core.Bool.{Bool, true, false}

@@ -1,4 +1,4 @@
--- Document 01, "State sheets", in its own words: a number is one to ten decimal digits, no leading zero unless it is the digit 0 alone. The
+-- docs/RULES.md, "Sheets", in its own words: a number is one to ten decimal digits, with no leading zero unless it is the digit 0 alone. The
 -- theorem `one-way-to-write` ties this to `decimal`.
 use mathlib.Core.List.{List, [], _∷_, foldl}
 use Prim.Native.Nat.{ℕ, _+_, _-_, _*_, _≤_}

@@ -1,5 +1,5 @@
--- Document 01, "State sheets": a sheet read line by line, from any cursor on. The line that begins where the cursor stands either may stand
--- there, or the sheet is over, or nothing that begins there may stand there: then that is the place of the fault.
+-- docs/RULES.md, "Sheets" and "A sheet walked": a sheet read line by line, from any cursor on. The line that begins where the cursor stands either
+-- may stand there, or the sheet is over, or nothing that begins there may stand there: then that is the place of the fault.
 use mathlib.Core.Path.{_≡_}
 use mathlib.Core.List.{List, [], _∷_, _++_}
 use mathlib.Core.Bool.{Bool, true, false}

@@ -1,6 +1,6 @@
-// State sheets (document 01): the values that the definitions of a sheet speak of. How a sheet is written
-// and read is defined in specs/, and what follows from that is proved in proofs/; the code that reads one
-// is the crate `reader`.
+// State sheets (docs/RULES.md, "Sheets"): the values that the definitions of a sheet speak of. How a sheet
+// is written and read is defined in specs/, and what follows from that is proved in proofs/; the code that
+// reads one is the crate `reader`.
 
 // A state line: the number of its section's fluid, and its two numbers as written. These do not lie side by side: as they
 // do in a digest, the compiler would move both as one, and the processor would wait until both are written.

@@ -1,5 +1,5 @@
--- What `walk` promises (document 02, C-14): the gas root, under the property that the quick engine's has too, and how many values of g were worked
--- out; or the limit, where it is below that.
+-- docs/RULES.md, "The walk": what `walk` promises, the gas root, under the property that the quick engine's has too, and how many values of g were
+-- worked out; or the limit, where it is below that.
 use mathlib.Core.Path.{_≡_}
 use Prim.Native.Nat.{ℕ, _+_, _-_, _≤_, _<_}
 use Rattle.cubic.specs.Cubic.{N, GasRoot}

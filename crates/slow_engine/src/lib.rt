@@ -1,4 +1,4 @@
-// The slow way, kept beside the quick one (document 02, C-14): the gas root of the cubic found with no
+// The slow way, kept beside the quick one (docs/RULES.md, "The walk"): the gas root of the cubic found with no
 // cleverness, by a walk down the grid. It is the root that `engine` finds, and no line of its search is here.
 mod signed;
 

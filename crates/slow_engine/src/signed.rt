@@ -1,4 +1,4 @@
-// g as document 01 writes it, over signed integers. Within the bounds 64 bits hold every number on the way.
+// g as docs/RULES.md writes it, over signed integers. Within the bounds 64 bits hold every number on the way.
 ghost use mathlib.Core.Path.{_≡_};
 ghost use Prim.Native.Nat.{_+_, _≤_};
 ghost use Rattle.cubic.specs.Cubic.{N, polynomial, g};

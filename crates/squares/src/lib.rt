@@ -1,4 +1,4 @@
-// The whole square root of document 01's s, of any number n of 32 bits, as one works it out on paper: n's
+// The whole square root of the rules' s, of any number n of 32 bits, as one works it out on paper: n's
 // digits are taken in pairs from the front, and each pair gives the root one digit more. After a root r
 // comes the largest digit d for which (20 r + d) d is at most what is left, for
 // (10 r + d) (10 r + d) = 100 r r + (20 r + d) d. With t 7763, n is 10000 x 7763, and its root s is 8810:

@@ -1,4 +1,4 @@
--- A band beside the state's own gas root (document 02, C-22), which is the one that every call tells, whatever book it had. Assumes nothing.
+-- A band beside the state's own gas root (docs/RULES.md, "The band"), which is the one that every call tells, whatever book it had. Assumes nothing.
 use mathlib.Core.Path.{_≡_, refl}
 use Prim.Native.Nat.{ℕ, _≤_}
 use native.Mathlib.Omega.{arith}

@@ -1,4 +1,4 @@
--- Before each side of a range had its number, a temperature out of range was refused by 2 and a pressure by 3 (document 01, "Replies"). Those
+-- Before each side of a range had its number, a temperature out of range was refused by 2 and a pressure by 3. Those
 -- checks stand here for one theorem: what is told now is finer than what they told, and otherwise the same. Assumes nothing.
 use mathlib.Core.Path.{_≡_, refl, sym, ap, _∙_}
 use mathlib.Core.Logic.{_⊎_, inl, inr, ⊎-elim, _↔_}

@@ -174,7 +174,7 @@ module _ (book : List ℕ) (calls : List Call) (got : Answers calls) (after : Li
   pub shared-slot-as-alone : (others : Answers calls) → Alone inBytes (replicate (length book) 0) calls others → got ≡ others
   shared-slot-as-alone others = alone-determined _ calls got others shared-slot-gets-alone
 
--- ---- the book in bytes beside the one in numbers that it replaces (document 02, C-19)
+-- ---- the book in bytes beside the one in numbers that it replaces
 -- For every such list, whatever either book holds, the answers are those that the calls got with the book in numbers;
 module _ (old new : List ℕ) (alike : BothOrNeither inNumbers inBytes old new) (calls : List Call) (got-before got : Answers calls) (old-after new-after : List ℕ) (before : Shared inNumbers old calls got-before old-after) (shared : Shared inBytes new calls got new-after) where
   pub answers-equal-for-all-contents : got-before ≡ got

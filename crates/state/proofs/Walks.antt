@@ -1,4 +1,5 @@
--- The slow way beside the quick one (document 02, C-14): what `walk` tells of an accepted state, and what any other call tells of it. Assumes nothing.
+-- The slow way beside the quick one (docs/RULES.md, "The walk"): what `walk` tells of an accepted state, and what any other call tells of it.
+-- Assumes nothing.
 use mathlib.Core.Path.{_≡_, refl}
 use Prim.Native.Nat.{ℕ, _≤_, _<_}
 use Rattle.slow_engine.specs.Promise.{way}

@@ -1,5 +1,5 @@
--- Document 01, "The book of starting points", however the book is laid out: what a call with a book tells, and what the book holds after it. Of
--- the book at entry what is told knows the length alone.
+-- docs/RULES.md, "The book", however it is laid out: what a call with a book tells, and what the book holds after it. Of the book at entry what is
+-- told knows the length alone.
 use mathlib.Core.Path.{_≡_}
 use mathlib.Core.List.{List, _++_}
 use Prim.Native.Nat.{ℕ, zero, suc}

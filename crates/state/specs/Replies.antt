@@ -1,5 +1,5 @@
--- What is told of a state (document 01): the first refusal that applies, with zeros, and otherwise the gas root, the dense root, their kind and
--- their densities. A caller who names a side is told what the reply has for it (document 02, C-18).
+-- docs/RULES.md, "Replies": what is told of a state, the first refusal that applies, with zeros, and otherwise the gas root, the dense root, their
+-- kind and their densities. A caller who names a side is told what the reply has for it ("Sides").
 use mathlib.Core.Path.{_≡_}
 use mathlib.Core.List.{List, _++_}
 use Prim.Native.Nat.{ℕ}

@@ -1,4 +1,4 @@
--- Calls of both forms made one after another on one book, however it is laid out, and the same calls made each alone.
+-- docs/RULES.md, "The book": calls of both forms made one after another on one book, however it is laid out, and the same calls made each alone.
 use mathlib.Core.Path.{_≡_}
 use mathlib.Core.List.{List, [], _∷_}
 use Prim.Native.Nat.{ℕ}

@@ -1,7 +1,7 @@
-// The reply to a state (document 01): a fluid's number, a temperature in millikelvin and a pressure in
-// pascals, each any 64-bit number at all, with a book of starting points or without one. A caller gets the
-// whole reply, or names a side and gets what the whole reply has for it (document 02, C-18). The walk to its
-// gas root (C-14) and the band of its attraction (C-22) are handed on, and laid beside it in proofs/.
+// The reply to a state (docs/RULES.md, "Replies"): a fluid's number, a temperature in millikelvin and a
+// pressure in pascals, each any 64-bit number at all, with a book of starting points or without one. A
+// caller gets the whole reply, or names a side and gets what the whole reply has for it ("Sides"). The walk
+// to its gas root and the band of its attraction are handed on, and laid beside it in proofs/.
 mod answers;
 
 ghost use Rattle.replies.specs.Figures.{figuresOf};

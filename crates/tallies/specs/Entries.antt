@@ -1,5 +1,5 @@
--- Document 02, C-21: what the replies to a section's states come to. Each figure of a report is said by what it is of the list of these replies:
--- how many there are, a sum, the least or the largest, and the first line that reaches it.
+-- docs/RULES.md, "The report": what the replies to a section's states come to. Each figure of a report is said by what it is of the list of these
+-- replies: how many there are, a sum, the least or the largest, and the first line that reaches it.
 use mathlib.Core.Path.{_≡_}
 use mathlib.Core.Bool.{Bool, true, false}
 use mathlib.Core.List.{List, [], _∷_, _++_}

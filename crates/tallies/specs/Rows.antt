@@ -1,4 +1,4 @@
--- A section's figures as a row of eleven numbers, in which they are added up.
+-- docs/RULES.md, "The report": a section's figures as a row of eleven numbers, in which they are added up.
 use mathlib.Core.Path.{_≡_}
 use mathlib.Core.Bool.{cond}
 use mathlib.Core.List.{List, [], _∷_}

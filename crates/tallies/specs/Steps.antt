@@ -1,5 +1,5 @@
--- The step that adds a reply to a report, for any report at all: also one of which no sheet is told. What a report is of a sheet is not said by this
--- file.
+-- docs/RULES.md, "The report": the step that adds a reply to a report, for any report at all, also one of which no sheet is told. What a report is of
+-- a sheet is not said by this file.
 use mathlib.Core.Bool.{Bool, cond}
 use Prim.Native.Nat.{ℕ, _+_, _-_}
 use lib.Dec.{ltb, eqb}

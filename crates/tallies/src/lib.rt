@@ -1,5 +1,6 @@
-// What the states of a sheet come to, fluid by fluid (document 02, C-21): a report, and the one step that adds a
-// reply to it. The report of a whole sheet and that of one in parts are this step over its states.
+// What the states of a sheet come to, fluid by fluid (docs/RULES.md, "The report"): a report, and the one
+// step that adds a reply to it. The report of a whole sheet and that of one in parts are this step over its
+// states.
 ghost use mathlib.Core.Path.{_≡_};
 ghost use lib.Dec.{ltb};
 ghost use Rattle.tallies.specs.Steps.{plus, counted, further, beyond, withReply, emptyReport};

@@ -1,4 +1,4 @@
--- How long a line is at most, and what it means that a text holds one.
+-- docs/RULES.md, "What the programs print": how long a line is at most, and what it means that a text holds one.
 use mathlib.Core.Path.{_≡_}
 use mathlib.Core.Bool.{cond}
 use mathlib.Core.List.{List, []}
@@ -13,7 +13,7 @@ use Rattle.texts.specs.Texts.{Line}
 abbrev pub longestWord : ℕ
 longestWord = 5
 
--- a root and a density of either side (document 02, C-18)
+-- a root and a density of either side
 abbrev pub mostNumbers : ℕ
 mostNumbers = 4
 

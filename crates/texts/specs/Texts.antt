@@ -1,5 +1,5 @@
--- Document 01, "State sheets": how a line of the program's output is written, single spaces between and byte 10 after. A number has the digits that the
--- grammar of `sheets` gives it.
+-- docs/RULES.md, "What the programs print": how a line of `sheet` is written, single spaces between and byte 10 after. A number has the digits
+-- that the grammar of `sheets` gives it.
 use mathlib.Core.Path.{_≡_}
 use mathlib.Core.List.{List, [], _∷_, _++_}
 use Prim.Native.Nat.{ℕ}

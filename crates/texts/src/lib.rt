@@ -1,6 +1,6 @@
-// A line of output (document 01, "State sheets"): a word and numbers, a single space before each number and
-// byte 10 after the last. It is gathered in one buffer: each private function puts some of it at a place, and
-// answers the place behind it.
+// A line of output (docs/RULES.md, "What the programs print"): a word and numbers, a single space before
+// each number and byte 10 after the last. It is gathered in one buffer: each private function puts some of
+// it at a place, and answers the place behind it.
 ghost use Prim.Native.Nat.{_+_, _≤_};
 ghost use lib.ListN.{length};
 ghost use Rattle.buffers.specs.Puts.{Holds};
@@ -13,7 +13,7 @@ use buffers::put_number;
 // SPLIT and SHEET are the longest words.
 const LONGEST_WORD: usize = 5;
 
-// A SPLIT line has a root and a density of either side (document 02, C-18).
+// A SPLIT line has a root and a density of either side.
 const MOST_NUMBERS: usize = 4;
 
 // A word, numbers with a space before each, and the line's end.

@@ -1,4 +1,4 @@
--- The one law that ties the signed quartic of the paper to its halves over naturals. After this file nothing is signed. Assumes nothing.
+-- The one law that ties the signed quartic of the rules to its halves over naturals. After this file nothing is signed. Assumes nothing.
 use mathlib.Core.Path.{_≡_, sym, ap, _∙_}
 use Prim.Native.Nat.{ℕ, _+_, _*_, _-_, _≤_, _<_}
 use native.Mathlib.Nat.{mul-le-mul-right}

@@ -1,4 +1,4 @@
--- Document 02, C-24: the excess viscosity factor, what (2.12-2) has in braces, in millionths. The fourth power is two squares, each rounded down.
+-- docs/RULES.md, "Excess viscosity": the factor, what (2.12-2) has in braces, in millionths. The fourth power is two squares, each rounded down.
 use mathlib.Core.Path.{_≡_}
 use Prim.Native.Nat.{ℕ, _+_, _*_, _/_, _≤_}
 use Rattle.viscosity.specs.Quartic.{RoundedDown}
@@ -7,7 +7,7 @@ use Rattle.viscosity.specs.Quartic.{RoundedDown}
 abbrev pub million : ℕ
 million = 1000000
 
--- "square y, divide by 1,000,000 and round down"
+-- the square, over 1,000,000 and rounded down
 unfoldable pub squared : ℕ → ℕ
 squared y = y * y / million
 

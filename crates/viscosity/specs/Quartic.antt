@@ -1,4 +1,4 @@
--- TM-564, (2.12-2): the quartic of the reduced density, and document 02, C-24: it is worked out exactly and rounded down to millionths.
+-- TM-564, (2.12-2), and docs/RULES.md, "Excess viscosity": the quartic of the reduced density, worked out exactly and rounded down to millionths.
 use Prim.Native.Nat.{ℕ, _+_, _*_}
 use lib.IntN.{ℤ, pos, _+ℤ_, _-ℤ_, _*ℤ_}
 use lib.Signed.{_≤ℤ_, _<ℤ_}

@@ -1,4 +1,4 @@
--- Document 02, C-24: what comes back, the factor or refusal 15 with zero, and when.
+-- docs/RULES.md, "Excess viscosity": what comes back, the factor or refusal 15 with zero, and when.
 use mathlib.Core.Path.{_≡_}
 use Prim.Native.Nat.{ℕ}
 use Rattle.viscosity.specs.declared.replies.ExcessFactor.{ExcessFactor}

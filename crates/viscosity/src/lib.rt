@@ -1,5 +1,6 @@
-// The excess viscosity factor of dense gas (TM-564, equation (2.12-2); document 02, C-24): any number at all
-// is a reduced density to ask for, in thousandths, and gets the factor, in millionths, or the refusal.
+// The excess viscosity factor of dense gas (TM-564, equation (2.12-2); docs/RULES.md, "Excess viscosity"):
+// any number at all is a reduced density to ask for, in thousandths, and gets the factor, in millionths, or
+// the refusal.
 mod quartic;
 mod replies;
 

@@ -1,4 +1,4 @@
--- Document 02, C-14: a walk to the gas root of a state, and what it is checked for, in the paper's order.
+-- docs/RULES.md, "The walk": a walk to the gas root of a state, and what it is checked for, in order.
 use mathlib.Core.Path.{_≡_}
 use mathlib.Core.List.{List, [], _∷_, _++_}
 use Prim.Native.Nat.{ℕ, _<_}

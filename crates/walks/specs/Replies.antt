@@ -1,5 +1,5 @@
--- Document 02, C-14: what comes back of a walk, and when. Where it is cut short the count is the limit and everything else zero; any other refusal
--- brings its number and zeros.
+-- docs/RULES.md, "The walk": what comes back of a walk, and when. Where it is cut short the count is the limit and everything else zero; any other
+-- refusal brings its number and zeros.
 use mathlib.Core.Path.{_≡_}
 use mathlib.Core.Bool.{cond}
 use Prim.Native.Nat.{ℕ}

@@ -1,5 +1,5 @@
--- What is printed for a state: kind, gas root and gas density (document 01, "State sheets"), and where the roots are two, dense root and dense density
--- behind them (document 02, C-18), or NO and the number; and for a refused sheet, SHEET, the number and the place.
+-- docs/RULES.md, "What the programs print": for a state its kind, gas root and gas density, and where the roots are two, dense root and dense
+-- density behind them, or NO and the number; and for a refused sheet SHEET, the number and the place.
 use mathlib.Core.Bool.{cond}
 use mathlib.Core.List.{List, [], _∷_, _++_}
 use Prim.Native.Nat.{ℕ}
@@ -34,7 +34,7 @@ gasSide figures = figures .«gas_root» ∷ figures .«gas_density» ∷ []
 abbrev pub bothSides : Figures → List ℕ
 bothSides figures = gasSide figures ++ (figures .«dense_root» ∷ figures .«dense_density» ∷ [])
 
--- the line of a reply, by the paper's figures of it; kind 1 is ONE
+-- the line of a reply, by its figures; kind 1 is ONE
 abbrev pub FiguresText : Figures → (text : List ℕ) → Type 0
 FiguresText figures text =
     cond (eqb (figures .number) 0)

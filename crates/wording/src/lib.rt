@@ -1,5 +1,5 @@
-// What is printed for a state line: its kind, gas root and gas density (document 01, "State sheets"), of a
-// state with two roots also the dense root and the dense density (document 02, C-18), or NO and the number
+// What is printed for a state line (docs/RULES.md, "What the programs print"): its kind, gas root and gas
+// density, of a state with two roots also the dense root and the dense density, or NO and the number
 // of its refusal; and for a refused sheet: SHEET, the number and the place.
 ghost use Rattle.texts.specs.Buffer.{Written};
 ghost use Rattle.wording.specs.Wording.{LineText, FaultText};

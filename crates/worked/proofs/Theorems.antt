@@ -1,5 +1,5 @@
--- Document 01's starred points hold of the definitions: `holds` is one test, which computes over the whole table, and `sound` the one law
--- that says what a row means that passes it. Assumes nothing.
+-- The table of docs/RULES.md, "Points worked through", holds of the definitions: `holds` is one test, which computes over the whole table, and
+-- `sound` the one law that says what a row means that passes it. Assumes nothing.
 use mathlib.Core.Bool.{Bool, true, _&&_}
 use mathlib.Core.List.{List, [], _∷_}
 use lib.Dec.{T}

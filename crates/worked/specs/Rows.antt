@@ -1,4 +1,4 @@
--- What a row of the table says of the definitions of `cubic`, `fluid` and `state`.
+-- docs/RULES.md, "Points worked through": what a row of the table says of the definitions of `cubic`, `fluid` and `state`.
 use mathlib.Core.Path.{_≡_}
 use mathlib.Core.List.{List, [], _∷_}
 use Prim.Native.Nat.{ℕ, _≤_}
@@ -27,7 +27,7 @@ ForEach (up-to n) Holds = (k : ℕ) → k ≤ n → Holds k
 ForEach all Holds = (k : ℕ) → Holds k
 
 -- An answered row is a state with its critical constants, its coefficients, the slots and the reply; a value row is g(z) for an a and a b;
--- a refused row has the fluid's number, the temperature, the pressures, the slots and the paper's number of the refusal.
+-- a refused row has the fluid's number, the temperature, the pressures, the slots and the number of the refusal.
 pub data Row : Type 0 where
   answered : (fluid : Fluid) (millikelvin pascals critical-millikelvin critical-pascals : ℕ) → Reduced → (slots : Span) → Reply → Row
   value : (a b z : ℕ) → ℤ → Row

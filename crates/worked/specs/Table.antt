@@ -1,7 +1,6 @@
--- Document 01, "Points worked through", with the finer numbers, the gas constant and the case of fluid 3 of document 02 (C-12, C-16, C-20):
--- the starred points, in its order, and behind them nitrogen's. What a row says is in Rows.antt; that every row is right is `starred-points`,
--- in proofs/Theorems.antt. Where the paper names no pressure a row is for all of them, and where it names no slot for every slot that leads
--- to the same reply, which for an answer is every one up to 63.
+-- docs/RULES.md, "Points worked through": the points that are proved, hydrogen's and oxygen's and behind them nitrogen's. What a row says is in
+-- Rows.antt; that every row is right is `starred-points`, in proofs/Theorems.antt. Where the rules name no pressure a row is for all of
+-- them, and where they name no slot for every slot that leads to the same reply, which for an answer is every one up to 63.
 use mathlib.Core.List.{List, [], _∷_}
 use lib.IntN.{pos, negℤ}
 use Rattle.fluid.specs.declared.choice.Fluid.the-variants.{Hydrogen, Oxygen, Nitrogen}

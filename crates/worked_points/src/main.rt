@@ -1,6 +1,6 @@
-// Runs what document 01 says of states under "Points worked through" and "Errors that look right", and
-// states of nitrogen, a line for each. The gate holds the output to the paper's figures, and nitrogen's to
-// what its rules give. What is starred there is proved of the definitions as well (`worked`).
+// Runs what docs/RULES.md says of states under "Points worked through" and "Mistakes that look right", and
+// the ends of each range, a line for each. The gate holds the output to the figures there, and the others to
+// what the rules give. What stands in that table is proved of the definitions as well (`worked`).
 use engine::Solution;
 use fluid::Reduced;
 use fluid::Reduction;
@@ -162,7 +162,7 @@ fn answered_states() {
     worked_through(1, 56_000, 50_000_000);
 }
 
-// Nitrogen's (document 02, C-20): a state of each kind, and the ends of its ranges.
+// Nitrogen's: a state of each kind, and the ends of its ranges.
 fn nitrogen() {
     worked_through(2, 300_000, 1_000_000);
     worked_through(2, 90_000, 300_000);
@@ -192,7 +192,7 @@ fn refused_states() {
 }
 
 // A call that is answered writes its gas root into its slot, one that is refused writes nothing. 64 is how
-// many numbers a book had in document 01.
+// many slots a book has, and not how many bytes.
 fn books() {
     asked_with(192, 1, 300_000, 1_000_000, 63, 0);
     asked_with(192, 1, 300_000, 1_000_000, 64, 0);

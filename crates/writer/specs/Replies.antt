@@ -1,4 +1,4 @@
--- Document 02, C-11: what comes back of lists that are to be written, with the buffer as it is left.
+-- docs/RULES.md, "A sheet written": what comes back of lists that are to be written, with the buffer as it is left.
 use mathlib.Core.Path.{_≡_}
 use mathlib.Core.List.{List, _++_}
 use Prim.Native.Nat.{ℕ}

@@ -1,6 +1,7 @@
-// State sheets, written (document 02, C-11): for each fluid a list of temperatures and a list of pressures, any
-// numbers at all, become the sheet that the grammar of `sheets` writes from them, in a buffer that the caller
-// lends. All is measured before the first byte is written, so a refusal leaves the buffer as it was.
+// State sheets, written (docs/RULES.md, "A sheet written"): for each fluid a list of temperatures and a
+// list of pressures, any numbers at all, become the sheet that the grammar of `sheets` writes from them, in
+// a buffer that the caller lends. All is measured before the first byte is written, so a refusal leaves the
+// buffer as it was.
 mod putting;
 
 ghost use Rattle.measures.specs.Columns.{fluidsOf};

@@ -1,4 +1,4 @@
--- `densities::density_of` meets its contract: one rounding down after the other is the one that the paper asks for (`Parts.antt`).
+-- `densities::density_of` meets its contract: one rounding down after the other is the one that the rules ask for (`Parts.antt`).
 -- Assumes nothing.
 use native.Mathlib.Omega.{arith}
 use Rattle.densities.specs.Densities.{gasConstant, density}

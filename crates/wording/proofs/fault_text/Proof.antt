@@ -1,4 +1,4 @@
--- `wording::fault_text` meets its contract: the line is made of the paper's figures of the fault. Assumes nothing.
+-- `wording::fault_text` meets its contract: the line is made of the figures of the fault. Assumes nothing.
 use mathlib.Core.Path.{subst}
 use borrow.Author.Needs.{needs}
 use Rattle.readings.specs.declared.SheetFigures.{SheetFigures}

@@ -1,4 +1,4 @@
--- `heat::coefficients_at` meets its contract. The rows are the paper's (`table_4`), and each test that was taken or left is a limit of the range
+-- `heat::coefficients_at` meets its contract. The rows are the rules' (`table_4`), and each test that was taken or left is a limit of the range
 -- that the row is for. Assumes nothing.
 use mathlib.Core.Path.{refl}
 use borrow.Author.Needs.{needs}

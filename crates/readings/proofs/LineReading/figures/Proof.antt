@@ -1,4 +1,4 @@
--- `readings::LineReading::figures` gives the paper's figures of each case. Assumes nothing.
+-- `readings::LineReading::figures` gives the figures of each case. Assumes nothing.
 use mathlib.Core.Path.{refl}
 use borrow.Author.Needs.{needs}
 use Rattle.readings.proofs.LineReading.figures.Statement.{statement}

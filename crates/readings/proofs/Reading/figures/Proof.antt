@@ -1,4 +1,4 @@
--- `readings::Reading::figures` gives the paper's figures of each case. Assumes nothing.
+-- `readings::Reading::figures` gives the figures of each case. Assumes nothing.
 use mathlib.Core.Path.{refl}
 use borrow.Author.Needs.{needs}
 use Rattle.readings.proofs.Reading.figures.Statement.{statement}

@@ -1,4 +1,4 @@
--- `viscosity::ExcessFactor::figures` gives the paper's figures of each case. Assumes nothing.
+-- `viscosity::ExcessFactor::figures` gives the figures of each case. Assumes nothing.
 use mathlib.Core.Path.{refl}
 use borrow.Author.Needs.{needs}
 use Rattle.viscosity.proofs.replies.ExcessFactor.figures.Statement.{statement}
