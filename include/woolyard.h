@@ -2,12 +2,14 @@
  * viscosity factor of dense gas, and state sheets.
  *
  * Every function answers every input with a number: 0 for an answer, another for a refusal, named below. The caller checks nothing first.
- * Each is proved to answer what document 01 (rules and scope of the build) defines, as later requests amend it, and to write nothing but what is
- * said here.
+ * Each is proved to answer what docs/RULES.md defines, and to write nothing but what is said here.
  *
  * What a pointer must be, and nothing else is asked: it points to as many elements as its array or its length says, and what is written
  * through one pointer lies apart from what the others point to. With length 0 it may be any pointer but a null one.
  * No function keeps a pointer, allocates, or has state of its own, so calls on different memory may run at the same time.
+ *
+ * What a call costs is said with it, behind "Costs": what the work grows with, and the magnitude of the time on a usual processor, which is no
+ * promise; docs/BENCHMARK.md has figures of one machine. What is refused at once, as by 1, 21 or 7, takes some 10 ns.
  *
  * Link libwoolyard.a (x86-64 Linux), which `rt staticlib woolyard` writes. Of the C library it needs memcpy, and nothing else. */
 #ifndef WOOLYARD_H
@@ -108,43 +110,49 @@ extern "C" {
 #define WOOLYARD_REPORT 33
 #define WOOLYARD_REPORTING 44
 
-/* The archive's own WOOLYARD_ABI. */
+/* The archive's own WOOLYARD_ABI. Costs what an empty function does. */
 uint64_t woolyard_abi(void);
 
 /* The reply to a state: its five figures, which are zeros where it is refused.
- * Answers 0, 1, 21, 22, 31 or 32; the first refusal in this order that applies is given. */
+ * Answers 0, 1, 21, 22, 31 or 32; the first refusal in this order that applies is given.
+ * Costs some 50 to 200 ns, whatever the state. */
 uint64_t woolyard_state(uint64_t fluid, uint64_t millikelvin, uint64_t pascals, uint64_t figures[5]);
 
 /* The same with a book of starting points, 192 bytes, holding anything at all. Slot k, from 0 to 63, has bytes 3 k to 3 k + 2, the lowest
  * first: it holds book[3 * k] + 256 * book[3 * k + 1] + 65536 * book[3 * k + 2]. An answered call writes the gas root into the three bytes of
  * its slot and touches no other byte; a refused call writes nothing to the book. What the book holds changes how long an answer takes, never
- * what it is. Answers 0, 1, 21, 22, 31, 32 or 4; the first refusal in this order that applies is given. */
+ * what it is. Answers 0, 1, 21, 22, 31, 32 or 4; the first refusal in this order that applies is given.
+ * Costs somewhat less than woolyard_state where the slot holds the state's own gas root, and about as much where it holds anything else. */
 uint64_t woolyard_state_with_book(uint64_t fluid, uint64_t millikelvin, uint64_t pascals, uint64_t slot, uint8_t *book, size_t book_length,
                                   uint64_t figures[5]);
 
 /* The reply to a state for the one side that is named: that side's root and density, which are zeros where it is refused. For a state of
  * kind ONE both sides give the same figures. The side may be any number.
- * Answers 0, 1, 21, 22, 31, 32 or 12; the first refusal in this order that applies is given. */
+ * Answers 0, 1, 21, 22, 31, 32 or 12; the first refusal in this order that applies is given.
+ * Costs no more than woolyard_state, since it leaves out a density where there are two. */
 uint64_t woolyard_side(uint64_t fluid, uint64_t millikelvin, uint64_t pascals, uint64_t side, uint64_t figures[2]);
 
 /* The same with a book, which is used as woolyard_state_with_book uses it: an answered call writes the gas root into its slot, whichever side
  * is named, and touches no other byte; a refused call writes nothing to the book.
- * Answers 0, 1, 21, 22, 31, 32, 12 or 4; the first refusal in this order that applies is given. */
+ * Answers 0, 1, 21, 22, 31, 32, 12 or 4; the first refusal in this order that applies is given.
+ * Costs what woolyard_state_with_book does, or less. */
 uint64_t woolyard_side_with_book(uint64_t fluid, uint64_t millikelvin, uint64_t pascals, uint64_t side, uint64_t slot, uint8_t *book,
                                  size_t book_length, uint64_t figures[2]);
 
 /* The gas root of a state found the slow way: the cubic is worked out at N + b and then at one place below after another, until its value is not
- * positive; N is the grid, 100,000, and b the state's own B* on it, as document 01 has them. That place is the gas root of woolyard_state. The
+ * positive; N is the grid, 100,000, and b the state's own B* on it, as docs/RULES.md has them. That place is the gas root of woolyard_state. The
  * limit may be any number, and no more values than it says are worked out. Answers 0, 1, 21, 22, 31, 32 or 11; the first refusal in this order
  * that applies is given.
+ * Costs some 1 ns for each value: as many as the limit at most, and never more than 100,001, which is 0.1 ms.
  *   walked[0]  the gas root z; 0 where refused
  *   walked[1]  how many values were worked out: N + b - z + 1 where answered; for 11 the limit, which is below that; for any other refusal 0 */
 uint64_t woolyard_walk(uint64_t fluid, uint64_t millikelvin, uint64_t pascals, uint64_t limit, uint64_t walked[2]);
 
-/* What if the attraction is a little off: the gas root of a state at two scalings of its a, which is A* on the grid, as document 01 has it. The
+/* What if the attraction is a little off: the gas root of a state at two scalings of its a, which is A* on the grid, as docs/RULES.md has it. The
  * scalings are whole numbers of thousandths, from 500 to 1500, the lower first; they may be equal, and 1000 is a itself. The scaled a is rounded
  * down, and b is left as it is. More attraction never makes the gas root larger: at every scaling from lower to upper it lies from roots[1] to
  * roots[0]. The scalings may be any numbers. Answers 0, 1, 21, 22, 31, 32 or 13; the first refusal in this order that applies is given.
+ * Costs little more than woolyard_state.
  *   roots[0]  the gas root at the lower scaling; 0 where refused
  *   roots[1]  the gas root at the upper scaling, which is not the larger one; 0 where refused */
 uint64_t woolyard_band(uint64_t fluid, uint64_t millikelvin, uint64_t pascals, uint64_t lower, uint64_t upper, uint64_t roots[2]);
@@ -155,19 +163,22 @@ uint64_t woolyard_band(uint64_t fluid, uint64_t millikelvin, uint64_t pascals, u
  * Answers 0 where every claim stands, as all claims of empty lists do; 8 where the lengths of the lists are not all equal, and then no claim is
  * looked at; and otherwise the refusal of the first claim that does not stand, which is 1, 21, 22, 31, 32, 12 or 14, the first in this order
  * that applies. No claim behind that one is looked at.
+ * Costs for each claim that is looked at about what woolyard_side does for its state, or less, since no density is worked out.
  *   *claim  the number of the claim that is refused; 0 where all stand or the lengths differ */
 uint64_t woolyard_claims(const uint64_t *fluids, size_t fluids_length, const uint64_t *millikelvin, size_t millikelvin_length,
                          const uint64_t *pascals, size_t pascals_length, const uint64_t *sides, size_t sides_length, const uint64_t *roots,
                          size_t roots_length, uint64_t *claim);
 
 /* Hydrogen's ideal heat capacity at a temperature in kelvin, any double at all: kJ/(kg K), equal bit for bit to Table 4 evaluated from A5
- * down, each operation rounded once. Answers 0, or 5 and leaves *heat alone: below 14, above 1000, an infinity or a NaN. */
+ * down, each operation rounded once. Answers 0, or 5 and leaves *heat alone: below 14, above 1000, an infinity or a NaN.
+ * Costs a few multiplications, some 10 ns. */
 uint64_t woolyard_heat(double kelvin, double *heat);
 
 /* The same in whole numbers, for a machine that has no doubles: J/(kg K), at a temperature in millikelvin, any number at all. At a whole
  * kelvin it is the polynomial of Table 4 with its decimals as they are printed, worked out exactly, times 1000 and rounded down; between two
  * of them it is the straight line from the one whole number to the other, rounded down, and so it never leaves what lies between these.
- * Answers 0, or 21 or 22 with *heat 0: below 14,000 or above 1,000,000 mK, as for parahydrogen. */
+ * Answers 0, or 21 or 22 with *heat 0: below 14,000 or above 1,000,000 mK, as for parahydrogen.
+ * Costs a look at two entries of a table and a division or two, some 10 ns. */
 uint64_t woolyard_heat_table(uint64_t millikelvin, uint64_t *heat);
 
 /* The excess viscosity factor of TM-564's equation (2.12-2), in millionths, at a reduced density in thousandths, any number at all: what
@@ -175,10 +186,12 @@ uint64_t woolyard_heat_table(uint64_t millikelvin, uint64_t *heat);
  * rounded down to millionths; so is each of the two squares that make its fourth power. The equation's 1e-7 and its xi stay with the caller:
  * *factor / 1e6 x 1e-7 / xi is by how many Pa s the viscosity is above that at low pressure. (For xi, 1 atm is 101325 Pa; the memorandum
  * prints 1.013 x 10^6.) Answers 0, or 15 with *factor 0: below 100 or above 3000. Below 100 the formula can't be used, since at 0, where the
- * excess should be none, it gives 95222 millionths. */
+ * excess should be none, it gives 95222 millionths.
+ * Costs a few multiplications, some 10 ns. */
 uint64_t woolyard_viscosity(uint64_t thousandths, uint64_t *factor);
 
 /* Reads a whole sheet. Answers 0, 6 or 7; 7 comes before 6.
+ * Costs one reading of the bytes, up to the end of the faulty line if there is one, some 1 ns a byte: 0.1 ms for the longest sheet.
  *   reading[0]  the number of state lines, the sum of the three counts; 0 for a refused sheet
  *   reading[1]  6: the place, which is the first byte of the first line that can't stand there; otherwise 0
  *   reading[2]  6: the length of the faulty line, which is sheet[place] and on, without byte 10; 0 if the line is missing; otherwise 0 */
@@ -186,7 +199,9 @@ uint64_t woolyard_sheet(const uint8_t *sheet, size_t length, uint64_t reading[3]
 
 /* State line k of a sheet, counted from 0 through all sections: its fluid, temperature in millikelvin and pressure in pascals as written,
  * in range or not; zeros where refused. Answers 0, 6, 7 or 16: 7 comes before 6, and 6 before 16, which is given exactly when the sheet is
- * good and k is not below the number of state lines. */
+ * good and k is not below the number of state lines.
+ * Costs what woolyard_sheet does, for each k again: all lines of a sheet cost as many readings of it as there are lines, some 0.3 s for the
+ * longest. For more than a few lines take woolyard_sheet_next. */
 uint64_t woolyard_sheet_line(const uint8_t *sheet, size_t length, uint64_t k, uint64_t state[3]);
 
 /* The next state line of a sheet, from where a cursor stands: a walk over all state lines reads the sheet once. The cursor is three numbers:
@@ -194,7 +209,10 @@ uint64_t woolyard_sheet_line(const uint8_t *sheet, size_t length, uint64_t k, ui
  * never relies on it. Answers 0 with the line's fluid, temperature in millikelvin and pressure in pascals as written, in range or not, and
  * moves the cursor behind the line; 16 where no state line is left, which from zeros on says that the sheet is good; 6 where the line
  * that begins next can't stand there; 7 for a sheet longer than 65,536 bytes, whatever the cursor. Where it does not answer 0, the state is
- * zeros and the cursor is left as it was. Lines before a fault are told, and the fault when it is reached: woolyard_sheet tells it first, with its place.
+ * zeros and the cursor is left as it was. Lines before a fault are told, and the fault when it is reached: woolyard_sheet tells it first, with
+ * its place.
+ * Costs a reading of the bytes from the cursor to the end of the line that is told, wherever in the sheet that is: some 1 ns a byte, and so a
+ * walk over all lines about what woolyard_sheet does.
  *   cursor[0]  how many sections were begun
  *   cursor[1]  how many state lines the last of them still lacks
  *   cursor[2]  the place of the line's first byte */
@@ -209,19 +227,22 @@ uint64_t woolyard_sheet_next(const uint8_t *sheet, size_t length, uint64_t curso
  * *taken is its length: 16 where no fault was met so far, 6 or 7 where one was, in this part or before. A line is held until it ends, and a bad one
  * is met there; but one of more than 21 bytes at its 22nd, and a byte behind the last line that is wanted at once. 7 is met at byte 65,537,
  * unless 6 was met before it. Behind a fault no byte changes anything, and what was answered before it stands.
+ * Costs a reading of the bytes that are taken, some 2 ns a byte, and for a line that ended what woolyard_state does; the call itself some 50 ns,
+ * which single bytes feel. What came before costs nothing again.
  *   *taken  how many bytes of the part were taken: for 0 up to the end of the state line, with its byte 10
  *   answer  0: the line's fluid, temperature and pressure as written, then the number and the five figures that woolyard_state answers
  *           for them; otherwise zeros */
 uint64_t woolyard_parts_take(uint64_t parts[WOOLYARD_PARTS], const uint8_t *part, size_t length, uint64_t *taken, uint64_t answer[9]);
 
 /* What would be said of the sheet if it were over here: 0, 6 or 7. A line that is missing or lacks its end is 6 here, and no fault before.
- * Nothing is changed: the caller may go on.
+ * Nothing is changed: the caller may go on. Costs some 10 ns, whatever was taken.
  *   reading[0]  the number of state lines; 0 where refused
  *   reading[1]  6: the place, as woolyard_sheet has it; otherwise 0 */
 uint64_t woolyard_parts_end(const uint64_t parts[WOOLYARD_PARTS], uint64_t reading[2]);
 
 /* One page about a whole sheet: for each fluid what its states come to, eleven numbers a fluid, hydrogen first, then oxygen, then nitrogen.
  * Lines are counted from 1 through the whole sheet, count lines included. Answers 0, or 6 or 7 as woolyard_sheet does, and then zeros.
+ * Costs one reading, as woolyard_sheet does, and for each state line what woolyard_state does: some 0.3 ms for the longest sheet.
  *   report[11 * fluid + 0]   how many states were ONE, kind 1
  *   report[11 * fluid + 1]   how many were SPLIT, kind 2
  *   report[11 * fluid + 2]   how many were refused by 21
@@ -239,11 +260,12 @@ uint64_t woolyard_report(const uint8_t *sheet, size_t length, uint64_t report[WO
 /* The same for a sheet that arrives in parts, any bytes in any pieces. All that is kept between two calls are the numbers of `reporting`: zeros
  * before the first byte, and then what the last call left. They may be copied and gone on from, also from a copy; and they may hold any numbers at
  * all: a sum that would then pass 64 bits adds nothing. Every part is used up.
- * Answers 16 while no fault was met, and 6 or 7 from a fault on, in this part or before, as woolyard_parts_take does. */
+ * Answers 16 while no fault was met, and 6 or 7 from a fault on, in this part or before, as woolyard_parts_take does.
+ * Costs about what woolyard_parts_take does for the same bytes and lines. */
 uint64_t woolyard_report_take(uint64_t reporting[WOOLYARD_REPORTING], const uint8_t *part, size_t length);
 
 /* What would be said of the sheet if it were over here: 0, 6 or 7, as woolyard_parts_end. However a sheet of at most 65,536 bytes was cut, from
- * zeros on this is what woolyard_report says of the whole. Nothing is changed: the caller may go on.
+ * zeros on this is what woolyard_report says of the whole. Nothing is changed: the caller may go on. Costs some 10 ns, whatever was taken.
  *   report  as woolyard_report has it; zeros where refused
  *   *place  6: the place; otherwise 0 */
 uint64_t woolyard_report_end(const uint64_t reporting[WOOLYARD_REPORTING], uint64_t report[WOOLYARD_REPORT], uint64_t *place);
@@ -256,6 +278,7 @@ uint64_t woolyard_report_end(const uint64_t reporting[WOOLYARD_REPORTING], uint6
  * 1000 numbers, or the two lists of a fluid are of unequal lengths; 9 where a number is above ten digits, which is above 9,999,999,999; 10 where
  * the whole sheet is longer than the buffer or than 65,536 bytes. It is the sheet's own length that counts, so a buffer of just that length is
  * enough; and one of WOOLYARD_SHEET_MOST_BYTES has room for every sheet that can be written.
+ * Costs one pass over the lists to measure the sheet and one to write it, some 2 ns a byte of the sheet.
  *   *length  how many bytes the sheet has; 0 where refused */
 uint64_t woolyard_write_sheet(const uint64_t *hydrogen_millikelvin, size_t hydrogen_millikelvin_length, const uint64_t *hydrogen_pascals,
                               size_t hydrogen_pascals_length, const uint64_t *oxygen_millikelvin, size_t oxygen_millikelvin_length,

@@ -1,20 +1,39 @@
 /* The header in use: a state, one side of it, the state with a book, another fluid, a walk, a band, claims, refusals, the heat capacity, the
- * heat table, the excess viscosity factor, a sheet and its lines, a faulty sheet, a sheet written from rows, with the answers to it, sheets
- * that arrive in parts, and reports on a sheet, whole and in parts. */
+ * heat table, the excess viscosity factor, a sheet and its lines, a faulty sheet, one that is too long, a sheet written from rows, with the
+ * answers to it, sheets that arrive in parts, and reports on a sheet, whole and in parts. */
 #include "woolyard.h"
 #include <inttypes.h>
 #include <stdio.h>
 #include <string.h>
 
+/* Of the answers of a part no more are printed. */
+#define MOST_ANSWERS 3
+
+/* What is wrong with a sheet that is refused. A later library may have more to say of one than this program knows. */
+static void print_fault(uint64_t number, uint64_t place)
+{
+    if (number == WOOLYARD_SHEET_MALFORMED)
+        printf("byte %" PRIu64 " begins the faulty line", place);
+    else if (number == WOOLYARD_SHEET_TOO_LONG)
+        printf("too long");
+    else
+        printf("reply %" PRIu64, number);
+}
+
 static void print_sheet(const char *text, size_t length)
 {
     const uint8_t *sheet = (const uint8_t *)text;
-    uint64_t reading[3], state[3];
-    if (woolyard_sheet(sheet, length, reading) == WOOLYARD_SHEET_MALFORMED)
-        printf("sheet: byte %" PRIu64 " begins the faulty line \"%.*s\"\n", reading[1], (int)reading[2], text + reading[1]);
+    uint64_t reading[3], cursor[WOOLYARD_CURSOR] = { 0 }, state[3];
+    uint64_t number = woolyard_sheet(sheet, length, reading);
+    printf("sheet: ");
+    if (number == WOOLYARD_ANSWERED)
+        printf("%" PRIu64 " state lines", reading[0]);
     else
-        printf("sheet: %" PRIu64 " state lines\n", reading[0]);
-    for (uint64_t k = 0; woolyard_sheet_line(sheet, length, k, state) == WOOLYARD_ANSWERED; k++)
+        print_fault(number, reading[1]);
+    if (number == WOOLYARD_SHEET_MALFORMED)
+        printf(" \"%.*s\"", (int)reading[2], text + reading[1]);
+    printf("\n");
+    while (woolyard_sheet_next(sheet, length, cursor, state) == WOOLYARD_ANSWERED)
         printf("  fluid %" PRIu64 ", %" PRIu64 " mK, %" PRIu64 " Pa\n", state[0], state[1], state[2]);
 }
 
@@ -48,32 +67,37 @@ static void print_answer(uint64_t number, const uint64_t *figures)
 
 static void print_answers(const uint8_t *sheet, size_t length)
 {
-    uint64_t state[3], figures[5];
-    for (uint64_t k = 0; woolyard_sheet_line(sheet, length, k, state) == WOOLYARD_ANSWERED; k++) {
+    uint64_t cursor[WOOLYARD_CURSOR] = { 0 }, state[3], figures[5];
+    while (woolyard_sheet_next(sheet, length, cursor, state) == WOOLYARD_ANSWERED) {
         uint64_t number = woolyard_state(state[0], state[1], state[2], figures);
         print_answer(number, figures);
     }
 }
 
-/* Each answer as its line ends; and behind each part the fault, or what is said of the sheet if it is over there. */
+/* The first answers, each as its line ends; and behind each part the fault, or what is said of the sheet if it is over there. */
 static void print_parts(const char *const *list, size_t count)
 {
     uint64_t parts[WOOLYARD_PARTS] = { 0 }, number, taken, answer[9], reading[2];
     printf("sheet in parts\n");
     for (; count > 0; count--, list++) {
         const uint8_t *part = (const uint8_t *)*list;
-        size_t length = strlen(*list);
+        size_t length = strlen(*list), answers = 0;
         printf("part of %zu bytes\n", length);
         while ((number = woolyard_parts_take(parts, part, length, &taken, answer)) == WOOLYARD_ANSWERED) {
-            print_answer(answer[WOOLYARD_LINE_NUMBER], answer + WOOLYARD_LINE_FIGURES);
+            if (answers++ < MOST_ANSWERS)
+                print_answer(answer[WOOLYARD_LINE_NUMBER], answer + WOOLYARD_LINE_FIGURES);
             part += taken;
             length -= taken;
         }
+        if (answers > MOST_ANSWERS)
+            printf("  and %zu more answers\n", answers - MOST_ANSWERS);
         printf("  %s: ", number == WOOLYARD_PART_USED_UP ? "if it is over" : "refused");
-        if (woolyard_parts_end(parts, reading) == WOOLYARD_SHEET_MALFORMED)
-            printf("byte %" PRIu64 " begins the faulty line\n", reading[1]);
+        number = woolyard_parts_end(parts, reading);
+        if (number == WOOLYARD_ANSWERED)
+            printf("%" PRIu64 " state lines", reading[0]);
         else
-            printf("%" PRIu64 " state lines\n", reading[0]);
+            print_fault(number, reading[1]);
+        printf("\n");
     }
 }
 
@@ -81,11 +105,13 @@ static void print_parts(const char *const *list, size_t count)
 static void print_report(const char *of, uint64_t number, const uint64_t *report, uint64_t place)
 {
     static const char *const kinds[] = { "ONE", "SPLIT", "NO 21", "NO 22", "NO 31", "NO 32" };
-    if (number == WOOLYARD_SHEET_MALFORMED) {
-        printf("%s: byte %" PRIu64 " begins the faulty line\n", of, place);
+    printf("%s: ", of);
+    if (number != WOOLYARD_ANSWERED) {
+        print_fault(number, place);
+        printf("\n");
         return;
     }
-    printf("%s: reply %" PRIu64 "\n", of, number);
+    printf("reply 0\n");
     for (int fluid = 0; fluid < 3; fluid++, report += 11) {
         printf("  fluid %d:", fluid);
         for (int kind = 0; kind < 6; kind++)
@@ -119,8 +145,27 @@ static void print_report_in_parts(const char *sheet, size_t size)
     }
 }
 
+/* A sheet of one byte too many: full sections of the widest lines, cut off. It ends with a zero byte more, as text does. */
+static void write_too_long(char sheet[WOOLYARD_SHEET_MOST_BYTES + 2])
+{
+    static const char count[] = "1000\n", line[] = "9999999999 9999999999\n";
+    size_t count_length = strlen(count), line_length = strlen(line);
+    size_t section_length = count_length + WOOLYARD_SECTION_MOST_STATES * line_length;
+    for (size_t i = 0; i <= WOOLYARD_SHEET_MOST_BYTES; i++) {
+        size_t place = i % section_length;
+        sheet[i] = place < count_length ? count[place] : line[(place - count_length) % line_length];
+    }
+    sheet[WOOLYARD_SHEET_MOST_BYTES + 1] = 0;
+}
+
 int main(void)
 {
+    uint64_t abi = woolyard_abi();
+    if (abi != WOOLYARD_ABI) {
+        fprintf(stderr, "libwoolyard.a is of ABI %" PRIu64 " and woolyard.h of %d: take both of one landing\n", abi, WOOLYARD_ABI);
+        return 1;
+    }
+
     uint64_t figures[5];
     uint64_t number = woolyard_state(WOOLYARD_OXYGEN, 120000, 500000, figures);
     printf("oxygen at 120000 mK and 500000 Pa: reply %" PRIu64 ", %s\n", number,
@@ -189,6 +234,9 @@ int main(void)
     static const char faulty[] = "0\n1\n120000\n0\n";
     print_sheet(good, sizeof good - 1);
     print_sheet(faulty, sizeof faulty - 1);
+    static char too_long[WOOLYARD_SHEET_MOST_BYTES + 2];
+    write_too_long(too_long);
+    print_sheet(too_long, strlen(too_long));
 
     static const uint64_t rows[4][3] = { { WOOLYARD_OXYGEN, 300000, 1000000 },
                                          { WOOLYARD_PARAHYDROGEN, 300000, 1000000 },
@@ -205,12 +253,21 @@ int main(void)
     static const char *const cut[] = { "1\n300000 1000000\n2\n1200", "00 500000\n55999 500000\n0\n" };
     static const char *const faulty_cut[] = { "0\n1\n120000 ", " 500000\n", "0\n" };
     print_parts(cut, 2);
+    static const char *const too_long_uncut[] = { too_long };
     print_parts(faulty_cut, 3);
+    print_parts(too_long_uncut, 1);
 
     static const char reported[] = "1\n300000 1000000\n3\n300000 1000000\n120000 500000\n55999 500000\n1\n90000 9999\n";
     print_whole_report(reported);
     print_report_in_parts(reported, 40);
     print_whole_report(faulty);
     print_report_in_parts(faulty, 8);
+    print_whole_report(too_long);
+    print_report_in_parts(too_long, 40000);
+
+    if (fflush(stdout) != 0 || ferror(stdout)) {
+        fprintf(stderr, "the output can't be written\n");
+        return 1;
+    }
     return 0;
 }

@@ -5,28 +5,40 @@ use woolyard::{
     SectionReport, Side, State,
 };
 
+/// Of the answers of a part no more are printed.
+const MOST_ANSWERS: usize = 3;
+
+/// What is wrong with a sheet. A later version of the library may have more to say of one than this program knows.
+fn in_words(fault: Fault) -> String {
+    match fault {
+        Fault::Malformed { place } => format!("byte {place} begins the faulty line"),
+        Fault::TooLong => "too long".to_string(),
+        other => format!("reply {}", other.refusal().number()),
+    }
+}
+
 fn print_sheet(sheet: &[u8]) {
     match woolyard::sheet(sheet) {
         Ok(count) => println!("sheet: {count} state lines"),
         Err(FaultySheet::Malformed { place, line }) => {
-            let line = line.escape_ascii();
-            println!("sheet: byte {place} begins the faulty line \"{line}\"");
+            let fault = in_words(Fault::Malformed { place });
+            println!("sheet: {fault} \"{}\"", line.escape_ascii());
         }
-        Err(FaultySheet::TooLong) => println!("sheet: too long"),
+        Err(faulty) => println!("sheet: {}", in_words(faulty.fault())),
     }
-    for line in states_of(sheet) {
+    // the walk ends with a fault that is told already
+    for line in woolyard::states(sheet).flatten() {
         let [fluid, millikelvin, pascals] = [line.fluid.number(), line.millikelvin, line.pascals];
         println!("  fluid {fluid}, {millikelvin} mK, {pascals} Pa");
     }
 }
 
-fn states_of(sheet: &[u8]) -> impl Iterator<Item = State> + '_ {
-    (0..).map_while(|k| woolyard::sheet_line(sheet, k).ok())
-}
-
 fn print_answers(sheet: &[u8]) {
-    for line in states_of(sheet) {
-        print_answer(woolyard::state(line.fluid, line.millikelvin, line.pascals));
+    for line in woolyard::states(sheet) {
+        match line {
+            Ok(line) => print_answer(woolyard::state(line.fluid, line.millikelvin, line.pascals)),
+            Err(faulty) => println!("  {}", in_words(faulty.fault())),
+        }
     }
 }
 
@@ -45,29 +57,36 @@ fn print_answer(reply: Result<Answer, Refusal>) {
             Kind::Split => {
                 println!("  SPLIT {gas_root} {gas_density} {dense_root} {dense_density}")
             }
+            other => println!("  {other:?} {gas_root} {gas_density}"),
         },
     }
 }
 
-/// Each answer as its line ends; and behind each part the fault, or what is said of the sheet if it is over there.
+/// The first answers, each as its line ends; and behind each part the fault, or what is said of the sheet if it is over there.
 fn print_parts(list: &[&str]) {
     println!("sheet in parts");
     let mut parts = Parts::default();
     for part in list {
         println!("part of {} bytes", part.len());
+        let mut answers = 0;
         let mut when = "if it is over";
         for line in parts.take(part.as_bytes()) {
             match line {
-                Ok(line) => print_answer(line.reply),
+                Ok(line) => {
+                    answers += 1;
+                    if answers <= MOST_ANSWERS {
+                        print_answer(line.reply);
+                    }
+                }
                 Err(_) => when = "refused",
             }
         }
+        if answers > MOST_ANSWERS {
+            println!("  and {} more answers", answers - MOST_ANSWERS);
+        }
         match parts.end() {
             Ok(count) => println!("  {when}: {count} state lines"),
-            Err(Fault::Malformed { place }) => {
-                println!("  {when}: byte {place} begins the faulty line")
-            }
-            Err(Fault::TooLong) => println!("  {when}: too long"),
+            Err(fault) => println!("  {when}: {}", in_words(fault)),
         }
     }
 }
@@ -82,8 +101,7 @@ fn print_report(of: &str, report: Result<Report, Fault>) {
                 print_section(report.section(fluid));
             }
         }
-        Err(Fault::Malformed { place }) => println!("{of}: byte {place} begins the faulty line"),
-        Err(Fault::TooLong) => println!("{of}: too long"),
+        Err(fault) => println!("{of}: {}", in_words(fault)),
     }
 }
 
@@ -122,11 +140,20 @@ fn print_report_in_parts(sheet: &[u8], size: usize) {
     }
 }
 
+/// A sheet of one byte too many: full sections of the widest lines, cut off.
+fn too_long() -> String {
+    let lines = "9999999999 9999999999\n".repeat(woolyard::SECTION_MOST_STATES);
+    let mut sheet = format!("{}\n{lines}", woolyard::SECTION_MOST_STATES).repeat(3);
+    sheet.truncate(woolyard::SHEET_MOST_BYTES + 1);
+    sheet
+}
+
 fn main() -> Result<(), Refusal> {
     let answer = woolyard::state(Fluid::Oxygen, 120_000, 500_000)?;
     let kind = match answer.kind {
         Kind::One => "ONE",
         Kind::Split => "SPLIT",
+        _ => "of another kind",
     };
     println!("oxygen at 120000 mK and 500000 Pa: reply 0, {kind}");
     println!(
@@ -215,6 +242,8 @@ fn main() -> Result<(), Refusal> {
     print_sheet(b"1\n300000 1000000\n2\n120000 500000\n55999 500000\n1\n90000 300000\n");
     let faulty = b"0\n1\n120000\n0\n";
     print_sheet(faulty);
+    let too_long = too_long();
+    print_sheet(too_long.as_bytes());
 
     let row = |fluid, millikelvin, pascals| State {
         fluid,
@@ -240,6 +269,7 @@ fn main() -> Result<(), Refusal> {
 
     print_parts(&["1\n300000 1000000\n2\n1200", "00 500000\n55999 500000\n0\n"]);
     print_parts(&["0\n1\n120000 ", " 500000\n", "0\n"]);
+    print_parts(&[&too_long]);
 
     let reported =
         b"1\n300000 1000000\n3\n300000 1000000\n120000 500000\n55999 500000\n1\n90000 9999\n";
@@ -247,5 +277,7 @@ fn main() -> Result<(), Refusal> {
     print_report_in_parts(reported, 40);
     print_report("report on a sheet", woolyard::report(faulty));
     print_report_in_parts(faulty, 8);
+    print_report("report on a sheet", woolyard::report(too_long.as_bytes()));
+    print_report_in_parts(too_long.as_bytes(), 40_000);
     Ok(())
 }

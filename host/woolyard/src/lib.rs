@@ -1,12 +1,14 @@
 //! Woolyard: compressibility roots and densities of parahydrogen, oxygen and nitrogen, hydrogen's ideal
 //! heat capacity, the excess viscosity factor of dense gas, and state sheets.
 //!
-//! Safe Rust over `libwoolyard.a`, whose functions are proved to answer what document 01 (rules and
-//! scope of the build) defines, as later requests amend it. Every function answers every input, and
-//! the caller checks nothing first. None keeps a reference or has state of its own, so calls may run at
-//! the same time; what is known of a sheet that arrives in parts is the caller's own, a [`Parts`] or a
-//! [`Reporting`]. And none allocates but [`claims`], [`write_sheet`] and [`write_sheet_into`], which make
-//! lists of their rows.
+//! Safe Rust over `libwoolyard.a`, whose functions are proved to answer what docs/RULES.md defines. Every
+//! function answers every input, and the caller checks nothing first. None keeps a reference or has state
+//! of its own, so calls may run at the same time; what is known of a sheet that arrives in parts is the
+//! caller's own, a [`Parts`] or a [`Reporting`]. And none allocates but [`claims`], [`write_sheet`] and
+//! [`write_sheet_into`], which make lists of their rows.
+//!
+//! The build asks the archive for its ABI and stops where that is not this wrapper's [`ABI`]. The proofs end at
+//! the archive, so the wrapper relies on none of its numbers: one that it does not know is an error value.
 //!
 //! ```
 //! use woolyard::{Fluid, Kind, Refusal, Side};
@@ -24,20 +26,25 @@
 //! # Ok::<(), Refusal>(())
 //! ```
 
+mod abi;
 pub mod boundary;
 mod parts;
 mod reply;
 mod report;
+mod states;
 #[cfg(test)]
 mod tests;
 
+pub use abi::ABI;
 use boundary::{BAND_ROOTS, FIGURES, SHEET_LISTS, SIDE_FIGURES, WALK_FIGURES};
 pub use parts::{Lines, Parts};
+use reply::index;
 pub use reply::{
     Answer, Band, Claim, Fault, FaultySheet, Fluid, Kind, Line, Refusal, RefusedClaim, Side,
     SideAnswer, State, Walk,
 };
 pub use report::{Reached, Report, Reporting, SectionReport};
+pub use states::{states, States};
 
 /// How many bytes a book has.
 pub const BOOK_BYTES: usize = 192;
@@ -55,6 +62,12 @@ pub const WALK_ENOUGH: u64 = 100_001;
 pub const SCALING_LEAST: u64 = 500;
 pub const SCALING_MOST: u64 = 1500;
 pub const SCALING_NONE: u64 = 1000;
+
+/// The ABI of the archive that is linked, as it tells it. The build has held it against [`ABI`], unless it was one for
+/// another machine: there a program may do so as it starts.
+pub fn abi() -> u64 {
+    boundary::abi()
+}
 
 /// The reply to a state: its five figures, or the first of refusals 21, 22, 31 and 32 that applies.
 pub fn state(fluid: Fluid, millikelvin: u64, pascals: u64) -> Result<Answer, Refusal> {
@@ -125,7 +138,7 @@ pub fn side_with_book(
 
 /// The gas root of a state found the slow way: the cubic is worked out at N + b and then at one place below
 /// after another, until its value is not positive; N is the grid, 100,000, and b the state's own B* on it,
-/// as document 01 has them. That place is the gas root of [`state`]. No more values are worked out than the
+/// as docs/RULES.md has them. That place is the gas root of [`state`]. No more values are worked out than the
 /// limit says, which may be any number; where the walk needs more, it is refusal 11, and as many were worked
 /// out as the limit says. The first of refusals 21, 22, 31, 32 and 11 that applies is given.
 ///
@@ -147,7 +160,7 @@ pub fn walk(fluid: Fluid, millikelvin: u64, pascals: u64, limit: u64) -> Result<
 }
 
 /// What if the attraction is a little off: the gas root of a state at two scalings of its a, which is A* on
-/// the grid, as document 01 has it. The scalings are whole numbers of thousandths, from 500 to 1500, the lower
+/// the grid, as docs/RULES.md has it. The scalings are whole numbers of thousandths, from 500 to 1500, the lower
 /// first; they may be equal, and 1000 is a itself. The scaled a is rounded down, and b is left as it is. At every
 /// scaling from the lower to the upper the gas root lies between the two that are answered. The first of refusals
 /// 21, 22, 31, 32 and 13 that applies is given; 13 is for scalings out of order or range.
@@ -213,9 +226,10 @@ pub fn claims(rows: &[Claim]) -> Result<(), RefusedClaim> {
         &list(|row| row.root),
         &mut claim,
     );
-    // the number of a row, so it is not cut off
-    let claim = claim as usize;
-    Refusal::check(number).map_err(|refusal| RefusedClaim { claim, refusal })
+    Refusal::check(number).map_err(|refusal| RefusedClaim {
+        claim: index(claim),
+        refusal,
+    })
 }
 
 /// Hydrogen's ideal heat capacity at a temperature in kelvin, any double at all: kJ/(kg K), equal bit
@@ -278,27 +292,18 @@ pub fn sheet(sheet: &[u8]) -> Result<u64, FaultySheet<'_>> {
     let [state_lines, place, length] = reading;
     match Fault::check(number, place) {
         Ok(()) => Ok(state_lines),
-        Err(Fault::TooLong) => Err(FaultySheet::TooLong),
-        // the line lies inside the sheet, so its length is not cut off
-        Err(Fault::Malformed { place }) => Err(FaultySheet::Malformed {
-            place,
-            line: &sheet[place..][..length as usize],
-        }),
+        Err(fault) => Err(FaultySheet::of(fault, sheet, length)),
     }
 }
 
 /// State line k of a sheet, counted from 0 through all sections: its fluid, temperature in millikelvin
 /// and pressure in pascals as written, in range or not. Refusal 7 comes before 6, and 6 before 16,
-/// which is given exactly when the sheet is good and k is not below the number of state lines.
+/// which is given exactly when the sheet is good and k is not below the number of state lines. Each call reads the
+/// whole sheet: [`states`] tells all lines in one pass.
 pub fn sheet_line(sheet: &[u8], k: u64) -> Result<State, Refusal> {
     let mut state = [0; 3];
     Refusal::check(boundary::sheet_line(sheet, k, &mut state))?;
-    let [fluid, millikelvin, pascals] = state;
-    Ok(State {
-        fluid: Fluid::try_from(fluid)?,
-        millikelvin,
-        pascals,
-    })
+    State::of(state)
 }
 
 /// One page about a whole sheet: for each fluid what its states come to. A refused sheet has the fault that [`sheet`] tells,
@@ -357,8 +362,16 @@ pub fn write_sheet_into(rows: &[State], buffer: &mut [u8]) -> Result<usize, Refu
     let mut length = 0;
     let lists = lists.each_ref().map(Vec::as_slice);
     Refusal::check(boundary::write_sheet(lists, buffer, &mut length))?;
-    // no more than the buffer has, so it is not cut off
-    Ok(length as usize)
+    written(length, buffer.len())
+}
+
+/// The length of a sheet that was written, which is no more than there was room for.
+fn written(length: u64, room: usize) -> Result<usize, Refusal> {
+    let length = index(length);
+    if length > room {
+        return Err(Refusal::NO_ANSWER);
+    }
+    Ok(length)
 }
 
 /// An answer of these figures, unless the number is a refusal's.
@@ -366,7 +379,7 @@ fn answer(number: u64, figures: [u64; FIGURES]) -> Result<Answer, Refusal> {
     Refusal::check(number)?;
     let [kind, gas_root, dense_root, gas_density, dense_density] = figures;
     Ok(Answer {
-        kind: if kind == 1 { Kind::One } else { Kind::Split },
+        kind: Kind::of(kind)?,
         gas_root,
         dense_root,
         gas_density,

@@ -1,7 +1,8 @@
 //! A sheet that arrives in parts.
 
 use crate::boundary::{self, LINE_NUMBERS, PARTS, PART_USED_UP};
-use crate::{answer, Fault, Line};
+use crate::reply::index;
+use crate::{answer, Fault, Line, Refusal};
 use std::iter::FusedIterator;
 
 /// All that is kept of a sheet between two of its parts: eight numbers, which are zeros before the first byte. They may be
@@ -86,16 +87,18 @@ impl Iterator for Lines<'_, '_> {
         let rest = self.rest.take()?;
         let mut taken = 0;
         let mut numbers = [0; LINE_NUMBERS];
-        match boundary::parts_take(&mut self.parts.0, rest, &mut taken, &mut numbers) {
-            0 => {
-                // no more than the rest has, so it is not cut off
-                self.rest = Some(&rest[taken as usize..]);
-                Some(Ok(line(numbers)))
-            }
-            PART_USED_UP => None,
-            // only the end tells the place of a fault
-            _ => self.parts.end().err().map(Err),
+        let number = boundary::parts_take(&mut self.parts.0, rest, &mut taken, &mut numbers);
+        if number == PART_USED_UP {
+            return None;
         }
+        if number != 0 {
+            // only the end tells the place of a fault
+            let fault = Refusal::of(number).met(self.parts.end(), Fault::Unknown);
+            return Some(Err(fault));
+        }
+        self.rest = rest.get(index(taken)..);
+        let told = self.rest.is_some().then(|| line(numbers));
+        Some(told.ok_or(Fault::Unknown(Refusal::NO_ANSWER)))
     }
 }
 

@@ -1,7 +1,7 @@
 //! What the states of a sheet come to, and the same of one that arrives in parts.
 
 use crate::boundary::{self, PART_USED_UP, REPORT, REPORTING, SECTION_REPORT};
-use crate::{Fault, Fluid};
+use crate::{Fault, Fluid, Refusal};
 
 /// One page about a whole sheet.
 #[derive(Clone, Copy, Debug, PartialEq, Eq, Hash)]
@@ -164,7 +164,7 @@ impl Reporting {
         match boundary::report_take(&mut self.0, part) {
             PART_USED_UP => Ok(()),
             // only the end tells the place of a fault
-            _ => self.end().map(drop),
+            number => Err(Refusal::of(number).met(self.end(), Fault::Unknown)),
         }
     }
 

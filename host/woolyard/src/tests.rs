@@ -1,7 +1,9 @@
-//! Document 01, "Points worked through" and "State sheets", and document 02, C-11, C-14, C-15, C-17 to C-20 and
-//! C-22 to C-24.
+//! What docs/RULES.md says of states, of sheets and of the calls on them.
 
+mod abi;
 mod report;
+mod states;
+mod unknown;
 
 use super::*;
 use boundary::{LINE_NUMBERS, PARTS};

@@ -1,4 +1,4 @@
-//! Document 02, C-21.
+//! Reports on sheets.
 
 use super::*;
 use boundary::{REPORT, REPORTING};
