@@ -28,7 +28,7 @@ const FAILED_INPUT: Input = Input {
 };
 
 // Of a call that was lent `most` bytes and answered `got`, where C's errno then says that a signal came, or not.
-pub fn came_to(got: isize, interrupted: bool, most: usize) -> Call
+fn came_to(got: isize, interrupted: bool, most: usize) -> Call
     ensures { λ r. ⌜ r ≡ callOf got interrupted most ⌝ }
 {
     if got < 0 {

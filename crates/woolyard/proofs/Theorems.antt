@@ -36,6 +36,7 @@ use Rattle.readings.proofs.Theorems as replies
 use Rattle.measures.specs.Columns.{Columns}
 use Rattle.writer.specs.Replies.{Leaving}
 use Rattle.writer.proofs.Theorems as writer
+use Rattle.woolyard.specs.Versions.{abi}
 use Rattle.woolyard.specs.States.{fiveOf, Laid, StateAnswers, BookAnswers}
 use Rattle.woolyard.specs.Sides.{twoOf, SideLaid, SideAnswers, SideBookAnswers}
 use Rattle.woolyard.specs.Walks.{walkedOf, WalkAnswers}
@@ -55,6 +56,9 @@ told-alike number-of laid-of same is-number is-number′ is-laid is-laid′ =
 same-laid : {reply other : Reply} {number number′ : ℕ} {figures figures′ : List ℕ} → reply ≡ other → Laid reply number figures → Laid other number′ figures′ → (number ≡ number′) × (figures ≡ figures′)
 same-laid same p q =
     told-alike (λ (r : Reply). figuresOf r .number) (λ (r : Reply). fiveOf (figuresOf r)) same (p .is-number) (q .is-number) (p .is-figures) (q .is-figures)
+
+pub abi-determined : {answer answer′ : ℕ} → answer ≡ abi → answer′ ≡ abi → answer ≡ answer′
+abi-determined is is′ = is ∙ sym is′
 
 -- ---- states
 module _ (fluid millikelvin pascals : ℕ) where

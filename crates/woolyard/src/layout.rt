@@ -13,7 +13,7 @@ use reports::Reported;
 use state::Reply;
 use state::SideReply;
 
-// The paper's number of a reply. Its kind, its roots and its densities go to the caller's array.
+// The number of a reply. Its kind, its roots and its densities go to the caller's array.
 pub(crate) fn lay_figures(reply: Reply, figures: &mut [u64; 5]) -> u64
     ensures { λ r. ⌜ Laid reply r (now (figures .exit)) ⌝ }
 {

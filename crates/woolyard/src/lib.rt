@@ -1,5 +1,5 @@
 // The boundary to C, Rust and Python: the functions of include/woolyard.h, each of which answers the
-// paper's number and lays what goes with it where its caller said. C passes a slice as a pointer and then
+// number and lays what goes with it where its caller said. C passes a slice as a pointer and then
 // a length, and an array or a number to write as a pointer.
 mod layout;
 
@@ -29,12 +29,14 @@ use heat::HeatCapacity;
 use sheets::Cursor;
 use sheets::Next;
 
-// A caller that was compiled with another number than this would misread what is answered.
+// The header's WOOLYARD_ABI. A caller that was compiled with another number would misread what is answered.
+const ABI: u64 = 1;
+
 #[no_mangle]
 pub extern "C" fn woolyard_abi() -> u64
     ensures { λ r. ⌜ r ≡ abi ⌝ }
 {
-    1
+    ABI
 }
 
 // The reply to a state: the array gets its kind, its two roots and their densities.
