@@ -1,15 +1,9 @@
 -- What a library tells of its reply, laid before the caller, keeps the boundary's promise. Assumes nothing.
 use mathlib.Core.Path.{_≡_, refl, ap, subst, _∙_}
-use mathlib.Core.List.{List, _∷_, []}
+use mathlib.Core.List.{List}
 use Prim.Native.Nat.{ℕ}
 use lib.Ieee.{Float}
-use lib.ListN.{length, getD}
-use Rattle.replies.specs.declared.Reply.{Reply}
-use Rattle.replies.specs.declared.Figures.{Figures}
-use Rattle.replies.specs.Figures.{figuresOf}
-use Rattle.replies.specs.declared.sides.SideReply.{SideReply}
-use Rattle.replies.specs.declared.sides.SideFigures.{SideFigures}
-use Rattle.replies.specs.Sides.{sideFiguresOf}
+use lib.ListN.{length}
 use Rattle.heat.specs.declared.replies.HeatCapacity.{HeatCapacity}
 use Rattle.heat.specs.Replies.{comesBack, numberOf}
 use Rattle.heat.specs.Promise.{Answers}
@@ -19,27 +13,15 @@ use Rattle.readings.specs.declared.SheetFigures.{SheetFigures}
 use Rattle.readings.specs.declared.LineFigures.{LineFigures}
 use Rattle.readings.specs.Figures.{sheetFigures, lineFigures, nextFigures}
 use Rattle.readings.specs.Replies.{ReadsAs, LineReadsAs, NextIs, shown, ShowsBack}
-use Rattle.state.specs.Replies.{Replies}
-use Rattle.sheets.specs.declared.State.{State}
 use Rattle.sheets.specs.declared.Next.{Next}
 use Rattle.parts.specs.declared.Reader.{Reader}
-use Rattle.parts.specs.declared.Brought.{Brought}
-use Rattle.parts.specs.declared.Brought.the-variants as Brought
 use Rattle.parts.specs.Takes.{over}
 use Rattle.kept.specs.Numbers.{readerOf}
 use Rattle.readings.proofs.Theorems.{figures-determined}
-use Rattle.woolyard.specs.States.{fiveOf, Laid}
-use Rattle.woolyard.specs.Sides.{twoOf, SideLaid}
 use Rattle.woolyard.specs.Heats.{bitsAfter, HeatAnswers}
 use Rattle.woolyard.specs.Sheets.{readingOf, SheetAnswers, stateOf, LineAnswers}
 use Rattle.woolyard.specs.Nexts.{cursorOf, nextNumber, cursorAfter, nextState, NextAnswers}
-use Rattle.woolyard.specs.Parts.{AnswersBrought, twoFiguresOf, EndAnswers}
-
-pub figures-laid : (reply : Reply) (told : Figures) → told ≡ figuresOf reply → Laid reply (told .number) (fiveOf told)
-figures-laid reply told is = record { is-number = ap (λ (f : Figures). f .number) is; is-figures = ap fiveOf is }
-
-pub side-laid : (reply : SideReply) (told : SideFigures) → told ≡ sideFiguresOf reply → SideLaid reply (told .number) (twoOf told)
-side-laid reply told is = record { is-number = ap (λ (f : SideFigures). f .number) is; is-figures = ap twoOf is }
+use Rattle.woolyard.specs.Parts.{twoFiguresOf, EndAnswers}
 
 pub heat-laid : (kelvin : Float) (before number : ℕ) (reply found : HeatCapacity) → reply ≡ found → Answers kelvin (comesBack reply) → number ≡ numberOf reply → HeatAnswers kelvin before number (bitsAfter before found)
 heat-laid kelvin before number reply found is answers is-number =
@@ -74,18 +56,6 @@ next-laid bytes before next same next-is =
       is-after = refl;
       is-state = refl;
     }
-
--- a line's answer, of which each figure was read from where the reply was laid
-pub brought-laid : {brought : Brought} (state : State) (reply : Reply) {number : ℕ} (five : List ℕ) {answer : List ℕ} → brought ≡ Brought.State state → Replies (state .fluid) (state .millikelvin) (state .pascals) (figuresOf reply) → Laid reply number five → answer ≡ state .fluid ∷ state .millikelvin ∷ state .pascals ∷ number ∷ getD five 0 0 ∷ getD five 1 0 ∷ getD five 2 0 ∷ getD five 3 0 ∷ getD five 4 0 ∷ [] → AnswersBrought brought answer
-brought-laid state reply {number} five is-brought replies laid is-answer =
-    let again : _≡_ {A = List ℕ} (getD five 0 0 ∷ getD five 1 0 ∷ getD five 2 0 ∷ getD five 3 0 ∷ getD five 4 0 ∷ []) five = rw (laid .is-figures) refl in
-    rw is-brought
-    (record {
-      number = number;
-      figures = five;
-      answers = record { reply = reply; replies = replies; laid = laid };
-      is-answer = is-answer ∙ ap (λ (l : List ℕ). state .fluid ∷ state .millikelvin ∷ state .pascals ∷ number ∷ l) again;
-    })
 
 pub end-laid : {parts reading : List ℕ} {number : ℕ} {reader : Reader} {said : Reading} (told : SheetFigures) → reader ≡ readerOf parts → said ≡ over reader → told ≡ sheetFigures said → number ≡ told .number → reading ≡ twoFiguresOf told → EndAnswers parts number reading
 end-laid {parts} told is-reader is-said is is-number is-reading =

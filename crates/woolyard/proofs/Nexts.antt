@@ -26,9 +26,9 @@ use Rattle.readings.specs.Replies.{NextIs, ReadsAs}
 use Rattle.readings.proofs.Answers.{good-told, long-told, fault-told}
 use Rattle.readings.proofs.Nexts.{CameAs, long-next, told-next, next-came}
 use Rattle.readings.proofs.Theorems.{next-determined, reading-determined}
+use Rattle.laying.proofs.Theorems.{told-alike}
 use Rattle.woolyard.specs.Sheets.{SheetAnswers}
 use Rattle.woolyard.specs.Nexts.{cursorOf, cursorNumbers, stateNumbers, threeZeros, nextNumber, cursorAfter, nextState, NextAnswers, Walked}
-use Rattle.woolyard.proofs.Theorems.{told-alike}
 
 module _ (bytes before : List ℕ) where
   -- whatever the cursor holds

@@ -1,9 +1,8 @@
 -- What is proved of the two calls for a sheet that arrives in parts, beside their contracts: each fixes the number and every value that its caller lent,
 -- whatever numbers are kept, and the next call goes on from where this one left the reader. Assumes nothing.
-use mathlib.Core.Path.{_≡_, sym, ap, ap₂, subst, _∙_}
-use mathlib.Core.List.{List, _∷_}
+use mathlib.Core.Path.{_≡_, sym, ap, subst, _∙_}
+use mathlib.Core.List.{List}
 use Prim.Native.Nat.{ℕ}
-use Rattle.sheets.specs.declared.State.{State}
 use Rattle.parts.specs.declared.Brought.{Brought}
 use Rattle.parts.specs.declared.Brought.the-variants as Brought
 use Rattle.parts.specs.declared.Taken.{Taken}
@@ -11,19 +10,9 @@ use Rattle.parts.specs.Takes.{numberOf}
 use Rattle.parts.proofs.Calls.{take-determined}
 use Rattle.kept.specs.Numbers.{readerOf, numbersOf}
 use Rattle.kept.proofs.Theorems.{nothing-is-lost}
-use Rattle.woolyard.specs.Parts.{nineZeros, LineAnswered, AnswersBrought, TakeAnswers, EndAnswers}
-use Rattle.woolyard.proofs.Theorems.{told-alike, state-determined}
-
-same-line : {state : State} {answer answer′ : List ℕ} → LineAnswered state answer → LineAnswered state answer′ → answer ≡ answer′
-same-line {state} p q =
-    let same = state-determined (state .fluid) (state .millikelvin) (state .pascals) (p .number) (q .number) (p .figures) (q .figures) (p .answers) (q .answers) in
-    p .is-answer
-    ∙ ap₂ (λ (n : ℕ) (l : List ℕ). state .fluid ∷ state .millikelvin ∷ state .pascals ∷ n ∷ l) (same .0) (same .1)
-    ∙ sym (q .is-answer)
-
-same-brought : (brought : Brought) {answer answer′ : List ℕ} → AnswersBrought brought answer → AnswersBrought brought answer′ → answer ≡ answer′
-same-brought (Brought.State state) p q = same-line p q
-same-brought Brought.Nothing p q = p ∙ sym q
+use Rattle.laying.specs.Lines.{nineZeros, AnswersBrought}
+use Rattle.laying.proofs.Theorems.{told-alike, same-brought}
+use Rattle.woolyard.specs.Parts.{TakeAnswers, EndAnswers}
 
 module _ (before : List ℕ) where
   -- whatever numbers are kept

@@ -14,23 +14,16 @@ use Rattle.reports.specs.Parts.{TakesAll, overHere}
 use Rattle.reports.proofs.Theorems.{report-determined, take-determined, refused-is-empty, whole-as-parts}
 use Rattle.kept_reports.specs.Rows.{rowsOf, keptRows, reportingOf}
 use Rattle.kept_reports.proofs.Theorems.{nothing-is-lost, zeros-are-the-start}
-use Rattle.woolyard.specs.Reports.{ReportLaid, ReportAnswers, ReportTakeAnswers, ReportEndAnswers}
+use Rattle.laying.specs.Reports.{ReportLaid}
+use Rattle.laying.proofs.Theorems.{same-report-laid}
+use Rattle.woolyard.specs.Reports.{ReportAnswers, ReportTakeAnswers, ReportEndAnswers}
 
 -- what is laid down of the reply that is owed
 pub end-answers : (kept : List (List ℕ)) {reporting : Reporting} {reply : Reported} {number : ℕ} {rows : List (List ℕ)} {place : ℕ} → reporting ≡ reportingOf kept → reply ≡ overHere reporting → ReportLaid reply number rows place → ReportEndAnswers kept number rows place
 end-answers kept {number = number} {rows} {place} is-kept is-reply laid = subst (λ (r : Reported). ReportLaid r number rows place) (is-reply ∙ ap overHere is-kept) laid
 
-same-laid : {reply reply′ : Reported} {number number′ place place′ : ℕ} {rows rows′ : List (List ℕ)} → reply ≡ reply′ → ReportLaid reply number rows place → ReportLaid reply′ number′ rows′ place′ → ((number ≡ number′) × (rows ≡ rows′)) × (place ≡ place′)
-same-laid same p q = (
-  (
-    p .is-number ∙ ap (λ (r : Reported). figuresOf r .number) same ∙ sym (q .is-number),
-    p .is-rows ∙ ap (λ (r : Reported). rowsOf (figuresOf r .report)) same ∙ sym (q .is-rows),
-  ),
-  p .is-place ∙ ap (λ (r : Reported). figuresOf r .place) same ∙ sym (q .is-place),
-)
-
 pub report-call-determined : (bytes : List ℕ) {number number′ place place′ : ℕ} {rows rows′ : List (List ℕ)} → ReportAnswers bytes number rows place → ReportAnswers bytes number′ rows′ place′ → ((number ≡ number′) × (rows ≡ rows′)) × (place ≡ place′)
-report-call-determined bytes p q = same-laid (report-determined bytes (p .reply) (q .reply) (p .reports-as) (q .reports-as)) (p .laid) (q .laid)
+report-call-determined bytes p q = same-report-laid (report-determined bytes (p .reply) (q .reply) (p .reports-as) (q .reports-as)) (p .laid) (q .laid)
 
 -- a refused sheet has zeros in every row
 pub refused-rows-are-zeros : (bytes : List ℕ) {number place : ℕ} {rows : List (List ℕ)} → ReportAnswers bytes number rows place → (number ≡ 0 → ⊥) → rows ≡ replicate 3 (replicate 11 0)
@@ -47,7 +40,7 @@ module _ (before : List (List ℕ)) where
       )
 
   pub report-end-determined : {number number′ place place′ : ℕ} {rows rows′ : List (List ℕ)} → ReportEndAnswers before number rows place → ReportEndAnswers before number′ rows′ place′ → ((number ≡ number′) × (rows ≡ rows′)) × (place ≡ place′)
-  report-end-determined p q = same-laid refl p q
+  report-end-determined p q = same-report-laid refl p q
 
 -- what is kept is the sheet that the reply has
 goes-on-from-here : {before : List (List ℕ)} {part : List ℕ} {number : ℕ} {after : List (List ℕ)} (p : ReportTakeAnswers before part number after) → reportingOf after ≡ p .reporting
@@ -67,4 +60,4 @@ taken-all (part ∷ parts) before after (number, between, one, others) =
 pub report-in-parts-as-whole : (parts : List (List ℕ)) (after : List (List ℕ)) {number number′ place place′ : ℕ} {rows rows′ : List (List ℕ)} → length (joined parts) ≤ mostBytes → TakenAll (replicate 4 (replicate 11 0)) parts after → ReportEndAnswers after number rows place → ReportAnswers (joined parts) number′ rows′ place′ → ((number ≡ number′) × (rows ≡ rows′)) × (place ≡ place′)
 report-in-parts-as-whole parts after fits taken ended whole =
     let from-start = subst (λ (r : Reporting). TakesAll r parts (reportingOf after)) zeros-are-the-start (taken-all parts (replicate 4 (replicate 11 0)) after taken) in
-    same-laid (whole-as-parts parts (reportingOf after) (whole .reply) fits from-start (whole .reports-as)) ended (whole .laid)
+    same-report-laid (whole-as-parts parts (reportingOf after) (whole .reply) fits from-start (whole .reports-as)) ended (whole .laid)

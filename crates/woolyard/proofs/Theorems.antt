@@ -8,12 +8,7 @@ use lib.Ieee.{Float}
 use lib.ListN.{length}
 use Rattle.books.specs.Layouts.{Placed}
 use Rattle.books.specs.Bytes.{inBytes}
-use Rattle.replies.specs.declared.Reply.{Reply}
-use Rattle.replies.specs.Figures.{figuresOf}
-use Rattle.replies.specs.declared.sides.SideReply.{SideReply}
 use Rattle.replies.specs.declared.sides.SideFigures.{SideFigures}
-use Rattle.replies.specs.Sides.{sideFiguresOf}
-use Rattle.replies.proofs.Theorems.{refused-carries-zeros, refused-side-carries-zeros}
 use Rattle.state.proofs.Theorems as state
 use Rattle.walks.specs.declared.replies.WalkFigures.{WalkFigures}
 use Rattle.walks.proofs.Theorems as walks
@@ -36,9 +31,10 @@ use Rattle.readings.proofs.Theorems as replies
 use Rattle.measures.specs.Columns.{Columns}
 use Rattle.writer.specs.Replies.{Leaving}
 use Rattle.writer.proofs.Theorems as writer
+use Rattle.laying.specs.States.{StateAnswers, BookAnswers}
+use Rattle.laying.specs.Sides.{SideAnswers, SideBookAnswers}
+use Rattle.laying.proofs.Theorems.{told-alike, same-laid, same-side-laid}
 use Rattle.woolyard.specs.Versions.{abi}
-use Rattle.woolyard.specs.States.{fiveOf, Laid, StateAnswers, BookAnswers}
-use Rattle.woolyard.specs.Sides.{twoOf, SideLaid, SideAnswers, SideBookAnswers}
 use Rattle.woolyard.specs.Walks.{walkedOf, WalkAnswers}
 use Rattle.woolyard.specs.Bands.{rootsOf, BandAnswers}
 use Rattle.woolyard.specs.Heats.{bitsAfter, HeatAnswers}
@@ -48,54 +44,32 @@ use Rattle.woolyard.specs.Viscosities.{ViscosityAnswers}
 use Rattle.woolyard.specs.Sheets.{readingOf, SheetAnswers, stateOf, LineAnswers}
 use Rattle.woolyard.specs.Writes.{WriteAnswers}
 
--- One law for all calls: what two replies that are equal tell is equal.
-pub told-alike : {Told Laid : Type 0} (number-of : Told → ℕ) (laid-of : Told → Laid) {reply other : Told} {number number′ : ℕ} {laid laid′ : Laid} → reply ≡ other → number ≡ number-of reply → number′ ≡ number-of other → laid ≡ laid-of reply → laid′ ≡ laid-of other → (number ≡ number′) × (laid ≡ laid′)
-told-alike number-of laid-of same is-number is-number′ is-laid is-laid′ =
-    (is-number ∙ ap number-of same ∙ sym is-number′, is-laid ∙ ap laid-of same ∙ sym is-laid′)
-
-same-laid : {reply other : Reply} {number number′ : ℕ} {figures figures′ : List ℕ} → reply ≡ other → Laid reply number figures → Laid other number′ figures′ → (number ≡ number′) × (figures ≡ figures′)
-same-laid same p q =
-    told-alike (λ (r : Reply). figuresOf r .number) (λ (r : Reply). fiveOf (figuresOf r)) same (p .is-number) (q .is-number) (p .is-figures) (q .is-figures)
-
 pub abi-determined : {answer answer′ : ℕ} → answer ≡ abi → answer′ ≡ abi → answer ≡ answer′
 abi-determined is is′ = is ∙ sym is′
 
 -- ---- states
-module _ (fluid millikelvin pascals : ℕ) where
-  pub state-determined : (number number′ : ℕ) (figures figures′ : List ℕ) → StateAnswers fluid millikelvin pascals number figures → StateAnswers fluid millikelvin pascals number′ figures′ → (number ≡ number′) × (figures ≡ figures′)
-  state-determined number number′ figures figures′ p q =
-      same-laid (state.reply-determined fluid millikelvin pascals (p .reply) (q .reply) (p .replies) (q .replies)) (p .laid) (q .laid)
+module _ (fluid millikelvin pascals slot : ℕ) where
+  -- any two books of one length get the same number and the same figures
+  pub book-never-matters : (book other : List ℕ) → length book ≡ length other → {number number′ : ℕ} {figures figures′ after after′ : List ℕ} → BookAnswers fluid millikelvin pascals slot book number figures after → BookAnswers fluid millikelvin pascals slot other number′ figures′ after′ → (number ≡ number′) × (figures ≡ figures′)
+  book-never-matters book other same p q =
+      same-laid (state.same-on-any-book _ book other same (state.whole-gets (p .called)) (state.whole-gets (q .called))) (p .laid) (q .laid)
 
-  module _ (slot : ℕ) where
-    -- any two books of one length get the same number and the same figures
-    pub book-never-matters : (book other : List ℕ) → length book ≡ length other → {number number′ : ℕ} {figures figures′ after after′ : List ℕ} → BookAnswers fluid millikelvin pascals slot book number figures after → BookAnswers fluid millikelvin pascals slot other number′ figures′ after′ → (number ≡ number′) × (figures ≡ figures′)
-    book-never-matters book other same p q =
-        same-laid (state.same-on-any-book _ book other same (state.whole-gets (p .called)) (state.whole-gets (q .called))) (p .laid) (q .laid)
+  -- and where the book has the slot, the call without a book gets them too
+  pub same-without-book : {book after figures figures′ : List ℕ} {number number′ : ℕ} → Placed inBytes slot (length book) → BookAnswers fluid millikelvin pascals slot book number figures after → StateAnswers fluid millikelvin pascals number′ figures′ → (number ≡ number′) × (figures ≡ figures′)
+  same-without-book placed p q =
+      same-laid (state.same-without-book fluid millikelvin pascals placed (p .called) (q .replies)) (p .laid) (q .laid)
 
-    -- and where the book has the slot, the call without a book gets them too
-    pub same-without-book : {book after figures figures′ : List ℕ} {number number′ : ℕ} → Placed inBytes slot (length book) → BookAnswers fluid millikelvin pascals slot book number figures after → StateAnswers fluid millikelvin pascals number′ figures′ → (number ≡ number′) × (figures ≡ figures′)
-    same-without-book placed p q =
-        same-laid (state.same-without-book fluid millikelvin pascals placed (p .called) (q .replies)) (p .laid) (q .laid)
+  pub state-with-book-determined : (book : List ℕ) {number number′ : ℕ} {figures figures′ after after′ : List ℕ} → BookAnswers fluid millikelvin pascals slot book number figures after → BookAnswers fluid millikelvin pascals slot book number′ figures′ after′ → ((number ≡ number′) × (figures ≡ figures′)) × (after ≡ after′)
+  state-with-book-determined book p q =
+      let same = state.call-determined fluid millikelvin pascals slot book (p .called) (q .called) in
+      (same-laid (same .0) (p .laid) (q .laid), same .1)
 
-    pub state-with-book-determined : (book : List ℕ) {number number′ : ℕ} {figures figures′ after after′ : List ℕ} → BookAnswers fluid millikelvin pascals slot book number figures after → BookAnswers fluid millikelvin pascals slot book number′ figures′ after′ → ((number ≡ number′) × (figures ≡ figures′)) × (after ≡ after′)
-    state-with-book-determined book p q =
-        let same = state.call-determined fluid millikelvin pascals slot book (p .called) (q .called) in
-        (same-laid (same .0) (p .laid) (q .laid), same .1)
-
--- a refused state's figures are zeros, and its book is as it was
-pub refused-lays-zeros : {reply : Reply} {number : ℕ} {figures : List ℕ} → Laid reply number figures → (number ≡ 0 → ⊥) → figures ≡ 0 ∷ 0 ∷ 0 ∷ 0 ∷ 0 ∷ []
-refused-lays-zeros {reply} laid refused =
-    laid .is-figures ∙ ap fiveOf (refused-carries-zeros reply (λ answered. refused (laid .is-number ∙ answered)))
-
+-- a refused state's book is as it was
 pub refused-changes-no-book : {fluid millikelvin pascals slot number : ℕ} {book figures after : List ℕ} → BookAnswers fluid millikelvin pascals slot book number figures after → (number ≡ 0 → ⊥) → after ≡ book
 refused-changes-no-book p refused =
     state.refused-changes-nothing (λ answered. refused (p .laid .is-number ∙ answered)) (p .called)
 
 -- ---- sides
-same-side-laid : {reply other : SideReply} {number number′ : ℕ} {figures figures′ : List ℕ} → reply ≡ other → SideLaid reply number figures → SideLaid other number′ figures′ → (number ≡ number′) × (figures ≡ figures′)
-same-side-laid same p q =
-    told-alike (λ (r : SideReply). sideFiguresOf r .number) (λ (r : SideReply). twoOf (sideFiguresOf r)) same (p .is-number) (q .is-number) (p .is-figures) (q .is-figures)
-
 module _ (fluid millikelvin pascals side : ℕ) where
   pub side-determined : (number number′ : ℕ) (figures figures′ : List ℕ) → SideAnswers fluid millikelvin pascals side number figures → SideAnswers fluid millikelvin pascals side number′ figures′ → (number ≡ number′) × (figures ≡ figures′)
   side-determined number number′ figures figures′ p q =
@@ -110,10 +84,6 @@ module _ (fluid millikelvin pascals side : ℕ) where
     side-with-book-determined book p q =
         let same = state.side-call-determined fluid millikelvin pascals side slot book (p .called) (q .called) in
         (same-side-laid (same .0) (p .laid) (q .laid), same .1)
-
-pub refused-side-lays-zeros : {reply : SideReply} {number : ℕ} {figures : List ℕ} → SideLaid reply number figures → (number ≡ 0 → ⊥) → figures ≡ 0 ∷ 0 ∷ []
-refused-side-lays-zeros {reply} laid refused =
-    laid .is-figures ∙ ap twoOf (refused-side-carries-zeros reply (λ answered. refused (laid .is-number ∙ answered)))
 
 pub refused-side-changes-no-book : {fluid millikelvin pascals side slot number : ℕ} {book figures after : List ℕ} → SideBookAnswers fluid millikelvin pascals side slot book number figures after → (number ≡ 0 → ⊥) → after ≡ book
 refused-side-changes-no-book p refused =

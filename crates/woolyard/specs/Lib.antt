@@ -1,7 +1,5 @@
 -- What a reader must believe of the boundary: which of a reply's figures lie where in what the caller lent.
 pub mod Versions
-pub mod States
-pub mod Sides
 pub mod Walks
 pub mod Bands
 pub mod Claims

@@ -7,13 +7,8 @@ use Rattle.reports.specs.declared.Reporting.{Reporting}
 use Rattle.reports.specs.declared.told.Reported.{Reported}
 use Rattle.reports.specs.Sheets.{figuresOf, ReportsAs}
 use Rattle.reports.specs.Parts.{TakesPart, overHere}
-use Rattle.kept_reports.specs.Rows.{rowsOf, keptRows, reportingOf}
-
--- the number of a reply; its report, row by row, and the place of a fault go to the caller
-pub record ReportLaid (reply : Reported) (number : ℕ) (rows : List (List ℕ)) (place : ℕ) : Type 0 where
-  pub is-number : number ≡ figuresOf reply .number
-  pub is-rows : rows ≡ rowsOf (figuresOf reply .report)
-  pub is-place : place ≡ figuresOf reply .place
+use Rattle.kept_reports.specs.Rows.{keptRows, reportingOf}
+use Rattle.laying.specs.Reports.{ReportLaid}
 
 pub record ReportAnswers (bytes : List ℕ) (number : ℕ) (rows : List (List ℕ)) (place : ℕ) : Type 0 where
   pub reply : Reported

@@ -5,8 +5,8 @@ mod layout;
 
 ghost use mathlib.Core.Path.{_≡_};
 ghost use Rattle.woolyard.specs.Versions.{abi};
-ghost use Rattle.woolyard.specs.States.{StateAnswers, BookAnswers};
-ghost use Rattle.woolyard.specs.Sides.{SideAnswers, SideBookAnswers};
+ghost use Rattle.laying.specs.States.{StateAnswers, BookAnswers};
+ghost use Rattle.laying.specs.Sides.{SideAnswers, SideBookAnswers};
 ghost use Rattle.woolyard.specs.Walks.{WalkAnswers};
 ghost use Rattle.woolyard.specs.Bands.{BandAnswers};
 ghost use Rattle.claims.specs.Lists.{listsOf};
@@ -21,11 +21,11 @@ ghost use Rattle.woolyard.specs.Reports.{ReportAnswers, ReportTakeAnswer
 ghost use Rattle.measures.specs.Columns.{fluidsOf};
 ghost use Rattle.woolyard.specs.Writes.{WriteAnswers};
 use crate::layout::faulty_line_length;
-use crate::layout::lay_figures;
-use crate::layout::lay_line;
-use crate::layout::lay_report;
-use crate::layout::lay_side;
 use heat::HeatCapacity;
+use laying::lay_figures;
+use laying::lay_line;
+use laying::lay_report;
+use laying::lay_side;
 use sheets::Cursor;
 use sheets::Next;
 

@@ -14,7 +14,8 @@
 #define HIGHEST_PASCALS 50000000
 
 /* Of each fluid, by its number: documents 01 and 02, temperatures in millikelvin. Hydrogen's critical constants depend on the temperature
- * and are worked out in the call. */
+ * and are worked out in the call. What the other checks know of the fluids is in ../second/src/state.rs; this is C, and so a second table:
+ * a further fluid is an entry in both. */
 static const struct {
     uint64_t coldest;
     double critical_temperature, critical_pressure, molar_mass;
@@ -48,7 +49,7 @@ double peer_gas_root(double a, double b) { return roots(a, b).gas; }
 
 /* The figures lie as those of woolyard_state do; the roots are compressibilities. */
 uint64_t peer_state(uint64_t fluid, uint64_t millikelvin, uint64_t pascals, double figures[5]) {
-    if (fluid > WOOLYARD_NITROGEN)
+    if (fluid >= sizeof fluids / sizeof *fluids)
         return refused(WOOLYARD_NO_SUCH_FLUID, figures);
     if (millikelvin < fluids[fluid].coldest)
         return refused(WOOLYARD_TEMPERATURE_TOO_LOW, figures);

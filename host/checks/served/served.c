@@ -13,8 +13,8 @@ long write(int file, const void *bytes, unsigned long length);
 enum { FUNCTION, FIRST, SECOND, THIRD, FOURTH, FIFTH, SIXTH, LENGTH, LENT_NUMBERS, LENT_BYTES, PLACES, LENT = PLACES + 5 };
 
 enum {
-    STATE, STATE_WITH_BOOK, SIDE, SIDE_WITH_BOOK, WALK, BAND, CLAIMS, HEAT, HEAT_TABLE, VISCOSITY, SHEET, SHEET_LINE,
-    PARTS_TAKE, PARTS_END, REPORT, REPORT_TAKE, REPORT_END, WRITE_SHEET
+    ABI, STATE, STATE_WITH_BOOK, SIDE, SIDE_WITH_BOOK, WALK, BAND, CLAIMS, HEAT, HEAT_TABLE, VISCOSITY, SHEET, SHEET_LINE,
+    SHEET_NEXT, PARTS_TAKE, PARTS_END, REPORT, REPORT_TAKE, REPORT_END, WRITE_SHEET
 };
 
 #define WORDS 524288
@@ -62,7 +62,8 @@ static uint64_t parts_take(uint64_t *call, const uint8_t *part)
     return woolyard_parts_take(parts, part, call[LENGTH], call + PLACES, answer);
 }
 
-/* What is lent of a report has so many numbers ahead of it that are not the function's, and its place is the middle one. */
+/* A cursor, and what is lent of a report, has so many numbers ahead of it that are not the function's; a report's place is the
+ * middle one. */
 enum { AHEAD = 2, REPORT_PLACE = PLACES + 2 };
 
 static uint64_t report(uint64_t *call, const uint8_t *sheet)
@@ -89,6 +90,8 @@ static uint64_t make(size_t word)
     uint64_t *call = batch.words + word;
     uint8_t *lent = batch.bytes + 8 * (word + LENT + call[LENT_NUMBERS]);
     switch (call[FUNCTION]) {
+    case ABI:
+        return woolyard_abi();
     case STATE:
         return woolyard_state(call[FIRST], call[SECOND], call[THIRD], call + PLACES);
     case STATE_WITH_BOOK:
@@ -115,6 +118,8 @@ static uint64_t make(size_t word)
         return woolyard_sheet(lent, call[LENGTH], call + PLACES);
     case SHEET_LINE:
         return woolyard_sheet_line(lent, call[LENGTH], call[FIRST], call + PLACES);
+    case SHEET_NEXT:
+        return woolyard_sheet_next(lent, call[LENGTH], call + LENT + AHEAD, call + PLACES);
     case PARTS_TAKE:
         return parts_take(call, lent);
     case PARTS_END:

@@ -73,9 +73,10 @@ struct Lists([Vec<u64>; 5]);
 impl Lists {
     fn standing(states: &[State], side: Side) -> Lists {
         let list = |number: fn(&State) -> u64| states.iter().map(number).collect();
-        let root: fn(&State) -> u64 = match side {
-            Side::Gas => |state| proved::answer(state).gas_root,
-            Side::Dense => |state| proved::answer(state).dense_root,
+        let root: fn(&State) -> u64 = if side == Side::Gas {
+            |state| proved::answer(state).gas_root
+        } else {
+            |state| proved::answer(state).dense_root
         };
         Lists([
             list(|state| state.fluid),

@@ -1,5 +1,6 @@
 //! The words around the figures in docs/BENCHMARK.md: on what machine, on which states, and how.
 
+use crate::next_lines::{NextLines, ROUNDS_BY_NUMBER};
 use crate::peer;
 use crate::report::{grouped, percent, write_parts, write_reports, Bar, Report};
 use crate::rounds::{ROUNDS, WARM_UP_ROUNDS};
@@ -33,6 +34,9 @@ impl Display for Report {
         writeln!(out, "\n## Writing a sheet\n")?;
         self.write_about_writing(out)?;
         self.write_writing(out)?;
+        writeln!(out, "\n## A sheet walked over\n")?;
+        self.write_about_next_lines(out)?;
+        self.write_next_lines(out)?;
         writeln!(out, "\n## A sheet in parts\n")?;
         self.write_refused_in_parts(out)?;
         self.write_accepted_in_parts(out)?;
@@ -171,6 +175,39 @@ the state that it was written from.
         )
     }
 
+    fn write_about_next_lines(&self, out: &mut Formatter) -> Result {
+        let NextLines {
+            accepted,
+            wide,
+            by_number,
+        } = &self.next_lines;
+        let milliseconds = by_number.median / 1e6;
+        let times_reading = by_number.median / accepted.beside_reading.other.median;
+        let times_reading = grouped(times_reading.round() as usize);
+        let [lines, bytes, wide_lines, wide_bytes] = [
+            accepted.state_lines,
+            accepted.bytes,
+            wide.state_lines,
+            wide.bytes,
+        ]
+        .map(grouped);
+        write!(
+            out,
+            "\
+Microseconds for all state lines of a sheet, each by a call from the cursor that the call before left, beside the very
+same bytes read once. The first sheet has {lines} of the states that calls are timed on, as many of each fluid, in
+{bytes} bytes, and is the one that is judged. The second is that of ten-digit numbers, {wide_lines} states in {wide_bytes} bytes. Each
+walk has rounds of its own with the reading, whose median round there is given too; they are compared round by round,
+and the median of the ratios is given. Before the clock runs, each line that a walk tells is checked to be the state that
+was written, and the last call to answer 16.
+
+Asked for by its number, each line has the whole sheet read: `woolyard_sheet_line` for all lines of the first sheet takes
+{milliseconds:.1} milliseconds, {times_reading} times as long as reading it once. That is the median of {ROUNDS_BY_NUMBER} rounds, and no bar is set.
+
+"
+        )
+    }
+
     fn write_refused_in_parts(&self, out: &mut Formatter) -> Result {
         let refused = &self.in_parts.refused;
         let bytes = grouped(refused.bytes);
@@ -271,8 +308,8 @@ fn write_about_bars(out: &mut Formatter) -> Result {
         "
 A call for one side has less to work out than the whole call, by a density where there are two, so it may
 not take longer. As that is little, the two are compared round by round, and the median of the ratios is
-judged; so are a sheet that is written or comes in one part and the same one read, and a report on a sheet and
-reading it and answering its states. The other ratios are of the median rounds, the last of user times. That last
+judged; so are a sheet that is written, walked over or comes in one part and the same one read, and a report on a
+sheet and reading it and answering its states. The other ratios are of the median rounds, the last of user times. That last
 one says little: the second implementation scans the whole grid for each state, since it is to be plain and not
 quick, and almost any search beats that.
 "

@@ -10,6 +10,7 @@ mod claims;
 mod contenders;
 mod document;
 mod floors;
+mod next_lines;
 mod parts;
 mod peer;
 mod programs;
@@ -24,6 +25,7 @@ mod writing;
 use bands::Bands;
 use claims::Claims;
 use contenders::{Starts, Timings};
+use next_lines::NextLines;
 use parts::InParts;
 use report::Report;
 use second::random::Random;
@@ -62,6 +64,7 @@ fn main() -> ExitCode {
         bands: Bands::measure(&timed, &scanned),
         claims: Claims::measure(&timed),
         writing: Writing::measure(),
+        next_lines: NextLines::measure(&timed),
         in_parts: InParts::measure(&timed),
         sheet_reports: SheetReports::measure(&timed),
         scan: contenders::scan(&scanned),

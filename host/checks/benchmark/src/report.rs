@@ -4,6 +4,7 @@ use crate::bands::Bands;
 use crate::claims::Claims;
 use crate::contenders::Timings;
 use crate::floors::{with_a_zero, Difference};
+use crate::next_lines::NextLines;
 use crate::parts::{InParts, OfSheet, SIZES};
 use crate::programs::{UserTimes, PROVED_RUNS, SECOND_RUNS};
 use crate::rounds::{Compared, Timing};
@@ -24,6 +25,7 @@ pub struct Report {
     pub bands: Bands,
     pub claims: Claims,
     pub writing: Writing,
+    pub next_lines: NextLines,
     pub in_parts: InParts,
     pub sheet_reports: SheetReports,
     pub scan: f64,
@@ -50,7 +52,7 @@ impl Report {
         self.bars().iter().all(Bar::met)
     }
 
-    pub fn bars(&self) -> [Bar; 11] {
+    pub fn bars(&self) -> [Bar; 12] {
         let bar = |of, above: f64, below: f64, most| Bar {
             of,
             ratio: above / below,
@@ -97,6 +99,12 @@ impl Report {
             bar(
                 "writing a sheet / reading it",
                 self.writing.write_beside_read,
+                1.0,
+                3.0,
+            ),
+            bar(
+                "walking over a sheet / reading it",
+                self.next_lines.accepted.beside_reading.ratio,
                 1.0,
                 3.0,
             ),
@@ -249,6 +257,35 @@ impl Report {
         ] {
             let [median, quickest] = [timing.median, timing.quickest].map(|time| time / 1e3);
             writeln!(out, "| {what} | {median:.1} | {quickest:.1} | {ratio:.3} |")?;
+        }
+        Ok(())
+    }
+
+    pub fn write_next_lines(&self, out: &mut Formatter) -> Result {
+        let NextLines { accepted, wide, .. } = &self.next_lines;
+        writeln!(
+            out,
+            "| what | median round | quickest round | reading it meanwhile | beside reading it |"
+        )?;
+        writeln!(out, "|---|---:|---:|---:|---:|")?;
+        for (what, walked) in [
+            (
+                "walking over accepted states, `woolyard_sheet_next`",
+                accepted,
+            ),
+            ("walking over ten-digit numbers", wide),
+        ] {
+            let Compared {
+                timed,
+                other,
+                ratio,
+            } = walked.beside_reading;
+            let times = [timed.median, timed.quickest, other.median];
+            let [median, quickest, reading] = times.map(|time| time / 1e3);
+            writeln!(
+                out,
+                "| {what} | {median:.1} | {quickest:.1} | {reading:.1} | {ratio:.3} |"
+            )?;
         }
         Ok(())
     }

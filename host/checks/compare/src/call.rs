@@ -1,7 +1,9 @@
 //! A call of one of the header's functions: all that goes in, and all that the function may write.
 
 use second::arrival::Arrival;
+use second::cursor::Cursor;
 use second::report::{Reporting, FIGURES};
+use second::state::FLUIDS;
 use second::writer::{OwnLists, LISTS};
 use std::fmt;
 use std::sync::Arc;
@@ -9,28 +11,31 @@ use std::sync::Arc;
 /// The functions, by the numbers that a served process knows them by.
 #[derive(Clone, Copy, Debug, PartialEq, Eq)]
 pub enum Function {
-    State = 0,
-    StateWithBook = 1,
-    Side = 2,
-    SideWithBook = 3,
-    Walk = 4,
-    Band = 5,
-    Claims = 6,
-    Heat = 7,
-    HeatTable = 8,
-    Viscosity = 9,
-    Sheet = 10,
-    SheetLine = 11,
-    PartsTake = 12,
-    PartsEnd = 13,
-    Report = 14,
-    ReportTake = 15,
-    ReportEnd = 16,
-    WriteSheet = 17,
+    Abi = 0,
+    State = 1,
+    StateWithBook = 2,
+    Side = 3,
+    SideWithBook = 4,
+    Walk = 5,
+    Band = 6,
+    Claims = 7,
+    Heat = 8,
+    HeatTable = 9,
+    Viscosity = 10,
+    Sheet = 11,
+    SheetLine = 12,
+    SheetNext = 13,
+    PartsTake = 14,
+    PartsEnd = 15,
+    Report = 16,
+    ReportTake = 17,
+    ReportEnd = 18,
+    WriteSheet = 19,
 }
 
 /// The names in the header, in the order of the numbers.
-pub const NAMES: [&str; 18] = [
+pub const NAMES: [&str; 20] = [
+    "woolyard_abi",
     "woolyard_state",
     "woolyard_state_with_book",
     "woolyard_side",
@@ -43,6 +48,7 @@ pub const NAMES: [&str; 18] = [
     "woolyard_viscosity",
     "woolyard_sheet",
     "woolyard_sheet_line",
+    "woolyard_sheet_next",
     "woolyard_parts_take",
     "woolyard_parts_end",
     "woolyard_report",
@@ -51,21 +57,14 @@ pub const NAMES: [&str; 18] = [
     "woolyard_write_sheet",
 ];
 
-/// How many plain numbers or lists a function has at most.
-pub const ARGUMENTS: usize = 6;
+/// How many plain numbers or lists a function has at most: those of a sheet that is to be written are the most.
+pub const ARGUMENTS: usize = LISTS;
 
 /// The lists of claims.
 const CLAIMS: [&str; 5] = ["fluids", "millikelvin", "pascals", "sides", "roots"];
 
-/// The lists of a sheet that is to be written.
-const SHEET: [&str; LISTS] = [
-    "hydrogen millikelvin",
-    "hydrogen pascals",
-    "oxygen millikelvin",
-    "oxygen pascals",
-    "nitrogen millikelvin",
-    "nitrogen pascals",
-];
+/// The lists of each fluid in a sheet that is to be written.
+const OF_FLUID: [&str; 2] = ["millikelvin", "pascals"];
 
 /// How many numbers the archive keeps between two parts of a sheet, and how many are told of a state line.
 pub const PARTS: usize = 8;
@@ -80,11 +79,17 @@ pub const ARRIVING_ROOM: usize = 10;
 pub const REPORT: usize = FIGURES;
 pub const REPORTING: usize = 44;
 
+/// How many numbers lie ahead of a cursor, of a report and of what is kept for one, that are not the function's.
+pub const AHEAD: usize = 2;
+
+/// How many numbers a cursor over a sheet has. It is lent with others on both sides.
+pub const CURSOR: usize = 3;
+const CURSOR_ROOM: usize = AHEAD + CURSOR + 2;
+
 /// What a call lends of a report, each with room for so many numbers, of which the first and the last are not the
 /// function's. Its place is the middle one of the places, so others lie on both sides of that too.
 const REPORTED: [&str; 2] = ["reporting", "report"];
-pub const REPORTED_AHEAD: usize = 2;
-pub const REPORTED_ROOM: usize = REPORTED_AHEAD + REPORTING + 2;
+pub const REPORTED_ROOM: usize = AHEAD + REPORTING + 2;
 pub const REPORT_PLACE: usize = 2;
 
 /// Lies behind the last number of each list of a sheet to be written, where the function is not to look: it would be
@@ -141,6 +146,10 @@ impl Call {
             reporting: None,
             number: NOT_YET_MADE,
         }
+    }
+
+    pub fn abi() -> Call {
+        Call::new(Function::Abi, [])
     }
 
     pub fn state(state: [u64; 3]) -> Call {
@@ -230,6 +239,18 @@ impl Call {
         }
     }
 
+    /// As for `sheet`. The numbers beside the cursor's are the comparison's to say.
+    pub fn sheet_next(sheet: &[u8], length: usize, cursor: Cursor) -> Call {
+        let mut lists = vec![0; CURSOR_ROOM];
+        lists[AHEAD..][..CURSOR].copy_from_slice(&cursor.numbers());
+        Call {
+            sheet: sheet.to_vec(),
+            length,
+            lists,
+            ..Call::new(Function::SheetNext, [])
+        }
+    }
+
     /// The first `length` bytes of `part` are the part. The numbers behind those that are kept are the comparison's to say.
     pub fn parts_take(kept: &Kept, part: &[u8], length: usize) -> Call {
         Call {
@@ -280,7 +301,7 @@ impl Call {
     /// With so many lists, of which what is kept is the first.
     fn of_kept_report(function: Function, kept: &KeptReport, lists: usize) -> Call {
         let mut numbers = vec![0; lists * REPORTED_ROOM];
-        numbers[REPORTED_AHEAD..][..REPORTING].copy_from_slice(&kept.numbers);
+        numbers[AHEAD..][..REPORTING].copy_from_slice(&kept.numbers);
         Call {
             lists: numbers,
             reporting: kept.reporting.clone(),
@@ -350,7 +371,7 @@ impl KeptReport {
 
     /// As a call left it.
     pub fn after(call: Call) -> KeptReport {
-        let numbers = call.lists[REPORTED_AHEAD..].first_chunk();
+        let numbers = call.lists[AHEAD..].first_chunk();
         KeptReport {
             numbers: *numbers.expect("a call that lends what is kept"),
             reporting: call.reporting,
@@ -378,7 +399,8 @@ impl fmt::Display for Call {
             _ => write!(text, "{:?}", self.places),
         }?;
         match self.function {
-            Function::State
+            Function::Abi
+            | Function::State
             | Function::Side
             | Function::Walk
             | Function::Band
@@ -390,6 +412,10 @@ impl fmt::Display for Call {
             }
             Function::Claims => self.write_lists(text, &CLAIMS),
             Function::Sheet | Function::SheetLine => {
+                write!(text, ", sheet \"{}\"", self.sheet.escape_ascii())
+            }
+            Function::SheetNext => {
+                self.write_lists(text, &["cursor"])?;
                 write!(text, ", sheet \"{}\"", self.sheet.escape_ascii())
             }
             Function::PartsTake => {
@@ -407,7 +433,9 @@ impl fmt::Display for Call {
             }
             Function::ReportEnd => self.write_lists(text, &REPORTED),
             Function::WriteSheet => {
-                self.write_lists(text, &SHEET)?;
+                let names =
+                    FLUIDS.map(|fluid| OF_FLUID.map(|list| format!("{} {list}", fluid.name)));
+                self.write_lists(text, names.as_flattened())?;
                 write!(text, ", buffer \"{}\"", self.sheet.escape_ascii())
             }
         }
@@ -432,7 +460,7 @@ impl Call {
                 self.places[..2].copy_from_slice(&archive.places[..2]);
             }
             Function::ReportTake => {
-                self.take_over_list(archive, REPORTED_AHEAD, REPORTING);
+                self.take_over_list(archive, AHEAD, REPORTING);
                 if self.reporting.is_none() {
                     self.number = archive.number;
                 }
@@ -440,7 +468,7 @@ impl Call {
             Function::ReportEnd if self.reporting.is_none() => {
                 self.number = archive.number;
                 self.places[REPORT_PLACE] = archive.places[REPORT_PLACE];
-                self.take_over_list(archive, REPORTED_ROOM + REPORTED_AHEAD, REPORT);
+                self.take_over_list(archive, REPORTED_ROOM + AHEAD, REPORT);
             }
             _ => (),
         }
@@ -455,8 +483,14 @@ impl Call {
     /// The report of a call that makes one, as it was left.
     pub fn reported(&self) -> [u64; REPORT] {
         let room = self.lists.len() - REPORTED_ROOM;
-        let report = self.lists[room + REPORTED_AHEAD..].first_chunk();
+        let report = self.lists[room + AHEAD..].first_chunk();
         *report.expect("a call that makes a report")
+    }
+
+    /// The cursor of a call that has one, as it was lent or left.
+    pub fn cursor(&self) -> Cursor {
+        let numbers = self.lists[AHEAD..].first_chunk::<CURSOR>();
+        Cursor::from(*numbers.expect("a call that lends a cursor"))
     }
 
     /// How many bytes the book, the sheet and the lists take.
@@ -465,7 +499,11 @@ impl Call {
     }
 
     /// With all that lies past their lengths.
-    fn write_lists(&self, text: &mut fmt::Formatter<'_>, names: &[&str]) -> fmt::Result {
+    fn write_lists(
+        &self,
+        text: &mut fmt::Formatter<'_>,
+        names: &[impl fmt::Display],
+    ) -> fmt::Result {
         let room = self.lists.len() / names.len();
         for (which, name) in names.iter().enumerate() {
             write!(text, ", {name} {:?}", &self.lists[which * room..][..room])?;
@@ -483,10 +521,11 @@ impl Call {
 
     /// The arguments with their names.
     fn asked(&self) -> String {
-        let [first, second, third, fourth, fifth, _] = self.arguments;
+        let [first, second, third, fourth, fifth, ..] = self.arguments;
         let state = format!("fluid {first}, millikelvin {second}, pascals {third}");
         let length = self.length;
         match self.function {
+            Function::Abi => String::new(),
             Function::State => state,
             Function::StateWithBook => format!("{state}, slot {fourth}, book length {length}"),
             Function::Side => format!("{state}, side {fourth}"),
@@ -499,7 +538,7 @@ impl Call {
             Function::Heat => format!("kelvin {first:#018x} or {}", f64::from_bits(first)),
             Function::HeatTable => format!("millikelvin {first}"),
             Function::Viscosity => format!("thousandths {first}"),
-            Function::Sheet | Function::Report => format!("length {length}"),
+            Function::Sheet | Function::SheetNext | Function::Report => format!("length {length}"),
             Function::SheetLine => format!("length {length}, k {first}"),
             Function::PartsTake | Function::ReportTake => {
                 format!("length {length}, behind {}", self.behind())

@@ -1,7 +1,7 @@
 //! Asks the archive and the second implementation the same, and stops at the first difference.
 
 use crate::boundary::Boundary;
-use crate::call::{Call, Function, PARTS, REPORTED_AHEAD, REPORTING};
+use crate::call::{Call, Function, AHEAD, CURSOR, PARTS, REPORTING};
 use crate::second_side::Second;
 use crate::tally::Tally;
 use second::heat::NOT_NUMBERS;
@@ -96,8 +96,8 @@ impl Comparison {
         Ok(answers)
     }
 
-    /// The places are filled with junk, and so are a buffer and what is lent beside the numbers that are kept of a sheet,
-    /// so that one which should be written and is not shows, and one that should not be and is.
+    /// The places are filled with junk, and so are a buffer and what is lent beside a cursor and the numbers that are kept
+    /// of a sheet, so that one which should be written and is not shows, and one that should not be and is.
     fn question(&mut self, mut call: Call) -> Call {
         call.places = [(); 5].map(|()| self.junk());
         match call.function {
@@ -106,14 +106,20 @@ impl Comparison {
                 call.lists[PARTS..].fill_with(|| self.junk());
             }
             Function::Report => call.lists.fill_with(|| self.junk()),
+            Function::SheetNext => self.junk_beside(&mut call.lists, CURSOR),
             Function::ReportTake | Function::ReportEnd => {
-                call.lists[..REPORTED_AHEAD].fill_with(|| self.junk());
-                call.lists[REPORTED_AHEAD + REPORTING..].fill_with(|| self.junk());
+                self.junk_beside(&mut call.lists, REPORTING);
             }
             _ => (),
         }
         self.tally.count(call.function);
         call
+    }
+
+    /// Ahead of the first so many numbers that are the function's, and behind them.
+    fn junk_beside(&mut self, lists: &mut [u64], numbers: usize) {
+        lists[..AHEAD].fill_with(|| self.junk());
+        lists[AHEAD + numbers..].fill_with(|| self.junk());
     }
 
     /// Any number, or the pattern of a NaN, which a copy as a double might change.
@@ -168,7 +174,8 @@ fn made(boundary: &mut dyn Boundary, questions: &[Call]) -> io::Result<Vec<Call>
 mod tests {
     use super::*;
     use crate::call::{Kept, KeptReport};
-    use second::sheet::TEN_NINES;
+    use second::cursor::Cursor;
+    use second::sheet::{LONGEST, TEN_NINES};
     use second::state::bytes_of_slot;
     use second::writer::OwnLists;
     use std::sync::Arc;
@@ -195,6 +202,7 @@ mod tests {
     fn calls() -> Vec<Call> {
         let state = [1, 120_000, 500_000];
         vec![
+            Call::abi(),
             Call::state(state),
             Call::walk(state, 8411),
             Call::band(state, [950, 1050]),
@@ -203,6 +211,7 @@ mod tests {
             Call::heat_table(41_500),
             Call::viscosity(1000),
             Call::sheet(b"0\n0\n0\n0", 6),
+            Call::sheet_next(b"0\n0\n0\n0", 6, Cursor::default()),
             Call::parts_take(&Kept::nothing(), b"0\n0\n0\n0", 6),
             Call::parts_end(&Kept::nothing()),
             Call::report(b"0\n0\n0\n0", 6),
@@ -397,6 +406,51 @@ mod tests {
         for &change in changes {
             let difference = outcome(call(), change).expect_err("a difference");
             assert!(difference.contains(told), "{difference}");
+        }
+    }
+
+    /// In the number, and in a place, of which the call has none.
+    #[test]
+    fn differences_of_the_abi() {
+        let changes: [fn(&mut Call); 3] = [
+            |call| call.number += 1,
+            |call| call.number = 0,
+            |call| call.places[0] ^= 1,
+        ];
+        assert_told_of(&Call::abi(), "; the second implementation 1 and ", &changes);
+    }
+
+    /// Of a line that is told, of a sheet that is over, of a fault and of a sheet that is too long: in the number, in the
+    /// state, in a place that the call does not have, in the cursor, beside it, and in the sheet and behind it.
+    #[test]
+    fn differences_of_a_next_line() {
+        let changes: [fn(&mut Call); 14] = [
+            |call| call.number ^= 16,
+            |call| call.places[0] += 1,
+            |call| call.places[1] += 1,
+            |call| call.places[2] += 1,
+            |call| call.places[3] ^= 1,
+            |call| call.lists[2] += 1,
+            |call| call.lists[3] ^= 1,
+            |call| call.lists[4] += 1,
+            |call| call.lists[0] ^= 1,
+            |call| call.lists[1] ^= 1,
+            |call| call.lists[5] ^= 1,
+            |call| call.lists[6] ^= 1,
+            |call| call.sheet[0] ^= 1,
+            |call| *call.sheet.last_mut().expect("what lies behind") ^= 1,
+        ];
+        let sheet = b"0\n1\n5 6\n0\n\n0\n";
+        let too_long = [b'0'; LONGEST + 2];
+        for (sheet, length, told) in [
+            (&sheet[..], 10, "0 and [1, 5, 6, "),
+            (&b"0\n0\n0\n0\n"[..], 6, "16 and [0, 0, 0, "),
+            (sheet, 7, "6 and [0, 0, 0, "),
+            (&too_long, LONGEST + 1, "7 and [0, 0, 0, "),
+        ] {
+            let call = Call::sheet_next(sheet, length, Cursor::default());
+            let told = format!("; the second implementation {told}");
+            assert_told_of(&call, &told, &changes);
         }
     }
 

@@ -1,9 +1,7 @@
 //! The archive, linked into this program.
 
 use crate::boundary::Boundary;
-use crate::call::{
-    told_lists, Call, Function, ARRIVING_ROOM, REPORTED_AHEAD, REPORTED_ROOM, REPORT_PLACE,
-};
+use crate::call::{told_lists, Call, Function, AHEAD, ARRIVING_ROOM, REPORTED_ROOM, REPORT_PLACE};
 use std::io;
 use woolyard::boundary;
 
@@ -17,8 +15,9 @@ impl Boundary for Linked {
 }
 
 fn make(call: &mut Call) {
-    let [first, second, third, fourth, fifth, _] = call.arguments;
+    let [first, second, third, fourth, fifth, ..] = call.arguments;
     call.number = match call.function {
+        Function::Abi => boundary::abi(),
         Function::State => boundary::state(first, second, third, &mut call.places),
         Function::StateWithBook => {
             let book = &mut call.book[..call.length];
@@ -49,6 +48,11 @@ fn make(call: &mut Call) {
             let sheet = &call.sheet[..call.length];
             boundary::sheet_line(sheet, first, first_of(&mut call.places))
         }
+        Function::SheetNext => {
+            let sheet = &call.sheet[..call.length];
+            let cursor = behind_others(&mut call.lists);
+            boundary::sheet_next(sheet, cursor, first_of(&mut call.places))
+        }
         Function::PartsTake => {
             let (parts, answer) = call.lists.split_at_mut(ARRIVING_ROOM);
             let part = &call.sheet[..call.length];
@@ -61,16 +65,16 @@ fn make(call: &mut Call) {
         }
         Function::Report => {
             let sheet = &call.sheet[..call.length];
-            let report = reported(&mut call.lists);
+            let report = behind_others(&mut call.lists);
             boundary::report(sheet, report, &mut call.places[REPORT_PLACE])
         }
         Function::ReportTake => {
-            boundary::report_take(reported(&mut call.lists), &call.sheet[..call.length])
+            boundary::report_take(behind_others(&mut call.lists), &call.sheet[..call.length])
         }
         Function::ReportEnd => {
             let (reporting, report) = call.lists.split_at_mut(REPORTED_ROOM);
             let place = &mut call.places[REPORT_PLACE];
-            boundary::report_end(reported(reporting), reported(report), place)
+            boundary::report_end(behind_others(reporting), behind_others(report), place)
         }
         Function::WriteSheet => {
             let lists = told_lists(&call.lists, call.arguments);
@@ -92,7 +96,7 @@ fn first_of<const COUNT: usize>(places: &mut [u64]) -> &mut [u64; COUNT] {
     places.first_chunk_mut().expect("no more than there are")
 }
 
-/// As many of the room of a report, or of what is kept for one, as the function has.
-fn reported<const COUNT: usize>(room: &mut [u64]) -> &mut [u64; COUNT] {
-    first_of(&mut room[REPORTED_AHEAD..])
+/// As many of the room of a cursor, of a report or of what is kept for one, as the function has.
+fn behind_others<const COUNT: usize>(room: &mut [u64]) -> &mut [u64; COUNT] {
+    first_of(&mut room[AHEAD..])
 }

@@ -10,6 +10,7 @@ mod bands;
 mod books;
 mod claim_lists;
 mod claims;
+mod cursors;
 mod doubles;
 mod heat_table;
 mod journeys;
@@ -24,49 +25,54 @@ mod walks;
 mod writes;
 mod written_again;
 
+use crate::call::Call;
 use crate::comparison::{Comparison, Outcome};
 use crate::workers::Unit;
 use second::random::Random;
-use second::state::FLUIDS as ALL;
+use second::state::{Fluid, FLUIDS};
 use split::below_critical;
 use states::any_state;
 
-/// Document 01's worked states and C-20's, the refused ones among them.
-const WORKED: [[u64; 3]; 15] = [
-    [1, 300_000, 1_000_000],
-    [1, 120_000, 500_000],
-    [0, 300_000, 1_000_000],
-    [0, 1_000_000, 10_000],
-    [1, 55_999, 500_000],
-    [1, 56_000, 9_999],
-    [1, 56_000, 10_000],
-    [1, 56_000, 50_000_000],
-    [2, 300_000, 1_000_000],
-    [2, 90_000, 300_000],
-    [2, 63_999, 500_000],
-    [2, 64_000, 9_999],
-    [2, 64_000, 10_000],
-    [2, 64_000, 50_000_000],
-    [3, 0, 0],
-];
+/// No fluid has this number or a larger one.
+const NO_FLUID: u64 = FLUIDS.len() as u64;
 
-/// Each fluid's number, its lowest temperature, and the critical one, which for hydrogen is
-/// 43,600 - 2,180,000,000 / 201,594. Above it SPLIT states were met only where t, rounded down, is still 10,000.
-const FLUIDS: [(u64, u64, u64); ALL.len()] = [
-    (0, ALL[0].coldest, 32_786),
-    (1, ALL[1].coldest, 154_576),
-    (2, ALL[2].coldest, 126_192),
-];
+/// The papers' worked states, the refused ones among them.
+fn worked() -> Vec<[u64; 3]> {
+    let mut states = states_of(|fluid| fluid.states.worked);
+    states.push([NO_FLUID, 0, 0]);
+    states
+}
+
+/// A SPLIT state of each fluid.
+fn split_states() -> [[u64; 3]; FLUIDS.len()] {
+    FLUIDS.map(|fluid| fluid.at(fluid.states.split))
+}
+
+/// The worked states, and SPLIT ones of the fluids that have none among those.
+fn worked_and_split() -> Vec<[u64; 3]> {
+    let mut states = worked();
+    let others = split_states();
+    states.extend(others.iter().filter(|state| !worked().contains(state)));
+    states
+}
+
+/// Of all fluids.
+fn states_of(choice: fn(&Fluid) -> &'static [[u64; 2]]) -> Vec<[u64; 3]> {
+    let of_fluid = |fluid: &'static Fluid| choice(fluid).iter().map(|&state| fluid.at(state));
+    FLUIDS.iter().flat_map(of_fluid).collect()
+}
 
 /// No sides, though the third and fourth are gas and dense to whoever keeps 32 bits.
 const NO_SIDES: [u64; 6] = [2, 3, 1 << 32, (1 << 32) + 1, 1 << 63, u64::MAX];
 
 /// The quick parts first.
 pub fn units() -> Vec<Unit> {
-    let mut units = doubles::units();
+    let mut units = vec![unit("abi", |comparison| comparison.ask(Call::abi()))];
+    units.extend(doubles::units());
     units.extend(heat_table::units());
     units.extend(viscosities::units());
     units.extend(sheets::units());
+    units.extend(cursors::units());
     units.extend(writes::units());
     units.extend(written_again::units());
     units.extend(arrivals::units());
@@ -95,8 +101,8 @@ fn spread_over(
 ) -> Outcome {
     let mut random = Random(seed);
     let fluids = || FLUIDS.into_iter().cycle();
-    for (fluid, coldest, _) in fluids().take(anywhere) {
-        let state = any_state(fluid, coldest, &mut random);
+    for fluid in fluids().take(anywhere) {
+        let state = any_state(fluid, &mut random);
         ask(comparison, state, &mut random)?;
     }
     for fluid in fluids().take(below) {

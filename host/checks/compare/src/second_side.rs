@@ -2,12 +2,13 @@
 
 use crate::boundary::Boundary;
 use crate::call::{
-    told_lists, Call, Function, ARRIVING_ROOM, LINE, REPORT, REPORTED_AHEAD, REPORTED_ROOM,
+    told_lists, Call, Function, AHEAD, ARRIVING_ROOM, CURSOR, LINE, REPORT, REPORTED_ROOM,
     REPORT_PLACE,
 };
 use second::arrival::{Arrival, Fault};
 use second::band::{BandReply, Scaled};
 use second::claims::claims_reply_by;
+use second::cursor::sheet_next;
 use second::heat::heat_capacity;
 use second::heat_table::tabled_heat_capacity;
 use second::report::{report_by, Report};
@@ -36,6 +37,7 @@ impl Boundary for Second {
     fn make(&mut self, calls: &mut [Call]) -> io::Result<()> {
         for call in calls {
             match call.function {
+                Function::Abi => call.number = second::ABI,
                 Function::State => self.state(call),
                 Function::StateWithBook => self.state_with_book(call),
                 Function::Side => self.side(call),
@@ -48,6 +50,7 @@ impl Boundary for Second {
                 Function::Viscosity => write_figure(call, excess_factor(call.arguments[0])),
                 Function::Sheet => whole_sheet(call),
                 Function::SheetLine => sheet_line(call),
+                Function::SheetNext => next_line(call),
                 Function::PartsTake => self.parts_take(call),
                 Function::PartsEnd => parts_end(call),
                 Function::Report => self.report(call),
@@ -114,7 +117,7 @@ impl Second {
 
     fn side_with_book(&mut self, call: &mut Call) {
         let whole = self.reply_to(call);
-        let [_, _, _, side, slot, _] = call.arguments;
+        let [_, _, _, side, slot, ..] = call.arguments;
         let reply = put_side_into_book(whole, side, slot, &mut call.book[..call.length]);
         write_side(call, reply);
     }
@@ -127,7 +130,7 @@ impl Second {
     }
 
     fn band(&mut self, call: &mut Call) {
-        let [fluid, millikelvin, pascals, lower, upper, _] = call.arguments;
+        let [fluid, millikelvin, pascals, lower, upper, ..] = call.arguments;
         let reply = self.band_reply([fluid, millikelvin, pascals], [lower, upper]);
         call.number = reply.number;
         call.places[..2].copy_from_slice(&reply.figures());
@@ -245,6 +248,19 @@ fn sheet_line(call: &mut Call) {
     call.places[..3].copy_from_slice(&state);
 }
 
+/// Where no line is told the cursor is left alone.
+fn next_line(call: &mut Call) {
+    let (number, state) = match sheet_next(&call.sheet[..call.length], call.cursor()) {
+        Ok((state, behind)) => {
+            call.lists[AHEAD..][..CURSOR].copy_from_slice(&behind.numbers());
+            (0, [state.fluid, state.millikelvin, state.pascals])
+        }
+        Err(number) => (number, [0; 3]),
+    };
+    call.number = number;
+    call.places[..3].copy_from_slice(&state);
+}
+
 /// As for `parts_take`.
 fn parts_end(call: &mut Call) {
     let Some(told) = call.arrival.as_deref().map(Arrival::end) else {
@@ -275,7 +291,7 @@ fn write_report(call: &mut Call, told: Result<Report, Fault>) {
     call.places[REPORT_PLACE] = place as u64;
     let figures = report.map(|section| section.figures()).concat();
     let room = call.lists.len() - REPORTED_ROOM;
-    call.lists[room + REPORTED_AHEAD..][..REPORT].copy_from_slice(&figures);
+    call.lists[room + AHEAD..][..REPORT].copy_from_slice(&figures);
 }
 
 fn write_sheet(call: &mut Call) {

@@ -1,5 +1,5 @@
 //! The archive in another process, which answers over its standard input and output: the program
-//! boundary/served.c, or an emulator that runs it.
+//! served/served.c, or an emulator that runs it.
 //!
 //! A batch is the number of its bytes, a word, and the calls one after the other. A call is fifteen
 //! words: the function; six arguments; the length; how many numbers are lent, and how many bytes; five places.
@@ -7,18 +7,18 @@
 //! with the reply's number where the function was. A word has eight bytes, the lowest first.
 
 use crate::boundary::Boundary;
-use crate::call::Call;
+use crate::call::{Call, ARGUMENTS};
 use std::io::{self, Read, Write};
 use std::process::{Child, Command, Stdio};
 use std::sync::mpsc::{self, Receiver, Sender};
 use std::thread;
 use std::time::Duration;
 
-/// The words of a call before what is lent.
-const WORDS: usize = 15;
+/// Where the places begin among the words of a call: behind the function, the arguments, the length and how much is lent.
+const PLACES: usize = 1 + ARGUMENTS + 3;
 
-/// Where the places begin among them.
-const PLACES: usize = 10;
+/// The words of a call before what is lent.
+const WORDS: usize = PLACES + 5;
 
 const WORD_BYTES: usize = 8;
 
@@ -171,6 +171,7 @@ fn answered(call: &mut Call, answer: &[u8]) -> io::Result<()> {
 mod tests {
     use super::*;
     use crate::call::{Kept, KeptReport};
+    use second::cursor::Cursor;
 
     fn call() -> Call {
         Call::state_with_book([1, 2, 3], 4, &[5, 6, 7], 2)
@@ -184,7 +185,8 @@ mod tests {
         let write = Call::write_sheet(&[1, 2, 3, 4, 5, 6].map(|number| vec![number]), 3);
         let part = Call::parts_take(&Kept::default(), b"0\n0\n", 3);
         let report = Call::report_end(&KeptReport::nothing());
-        for mut taken in [call(), claims, write, part, report] {
+        let next = Call::sheet_next(b"0\n0\n", 3, Cursor::default());
+        for mut taken in [call(), claims, write, part, report, next] {
             let mut made = taken.clone();
             made.number = 0;
             made.places = [1, 2, 3, 4, 5];

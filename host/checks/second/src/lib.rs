@@ -8,6 +8,7 @@ pub mod band;
 mod cases;
 pub mod claims;
 pub mod cubic;
+pub mod cursor;
 mod fraction;
 pub mod heat;
 pub mod heat_list;
@@ -21,3 +22,6 @@ pub mod state;
 pub mod viscosity;
 pub mod walk;
 pub mod writer;
+
+/// The number of what C sees of the library, as the header that it was written beside has it.
+pub const ABI: u64 = 1;

@@ -2,7 +2,7 @@
 //! for each fluid.
 
 use crate::report::{report, Report, Section};
-use crate::sheet;
+use crate::sheet::{self, SECTIONS};
 use crate::state::FLUIDS;
 use std::fmt::Display;
 
@@ -41,8 +41,9 @@ fn page(report: &Report) -> String {
     [heading, rows.concat()].concat()
 }
 
-fn row<Cell: Display>(words: &str, [hydrogen, oxygen, nitrogen]: [Cell; 3]) -> String {
-    format!("{words:<24}{hydrogen:>21}{oxygen:>21}{nitrogen:>21}\n")
+fn row<Cell: Display>(words: &str, cells: [Cell; SECTIONS]) -> String {
+    let cells = cells.map(|cell| format!("{cell:>21}"));
+    format!("{words:<24}{}\n", cells.concat())
 }
 
 #[cfg(test)]
@@ -78,7 +79,7 @@ first on line                               2                    5              
             ..Section::default()
         };
         full.largest.line = u64::MAX;
-        for report in [Report::default(), [full; 3]] {
+        for report in [Report::default(), [full; SECTIONS]] {
             let page = page(&report);
             assert_eq!(page.lines().count(), 12);
             assert!(page.split_inclusive('\n').all(|line| line.len() == 88));

@@ -26,15 +26,10 @@ pub const SMALL: [&[u8]; 3] = [b"0\n0\n0\n", b"1\n0 0\n0\n0\n", b"0\n0\n1\n1 9\n
 /// Good sheets to be damaged everywhere, with new bytes at the end alone.
 pub const LARGER: [&[u8]; 2] = [b"1\n10 9\n1\n0 99\n1\n9 0\n", b"0\n0\n1\n9 9999999999\n"];
 
-/// Numbers that a sheet can hold: the ends of the ranges with what lies past them, the ends of what 8,
-/// 16, 31, 32 and 33 bits can hold, every digit, and what is in range for whoever keeps 32 bits.
-const NUMBERS: [u64; 30] = [
-    13_999,
-    14_000,
-    55_999,
-    56_000,
-    63_999,
-    64_000,
+/// Numbers that a sheet can hold, besides the lowest temperatures and what lies below them: the other ends of the ranges
+/// with what lies past them, the ends of what 8, 16, 31, 32 and 33 bits can hold, every digit, and what is in range for
+/// whoever keeps 32 bits.
+const NUMBERS: [u64; 24] = [
     1_000_000,
     1_000_001,
     9_999,
@@ -311,7 +306,8 @@ pub fn full_lists(bytes: usize) -> OwnLists {
 
 /// Numbers at every place of a state, the least and the greatest of each length among them.
 fn numbers(list: &mut List) {
-    for number in NUMBERS {
+    let coldest = FLUIDS.map(|fluid| [fluid.coldest - 1, fluid.coldest]);
+    for &number in coldest.as_flattened().iter().chain(&NUMBERS) {
         in_each_state(list, number.to_string().as_bytes());
     }
     for length in 1..=10 {

@@ -11,7 +11,7 @@ pub const NITROGEN: u64 = 2;
 /// In hundred-thousandths. Its critical constants are worked out with it too.
 const MOLAR_MASS_OF_HYDROGEN: u128 = 201_594;
 
-/// What the papers say of a fluid.
+/// What the papers say of a fluid, and which of its states the checks ask for.
 #[derive(Clone, Copy)]
 pub struct Fluid {
     pub number: u64,
@@ -22,10 +22,36 @@ pub struct Fluid {
     molar_mass: u128,
     /// At a temperature in millikelvin.
     critical: fn(u64) -> Critical,
+    /// The temperature that is the critical one there, which for hydrogen is 43,600 - 2,180,000,000 / 201,594.
+    /// Above it SPLIT states were met only where t, rounded down, is still 10,000.
+    pub critical_millikelvin: u64,
+    pub states: States,
 }
 
-/// All fluids, in the order of their numbers, which is that of a sheet's sections. Nitrogen's figures are
-/// those of Table 2 of source document 000.
+/// States of a fluid that the checks ask for, each a temperature and a pressure.
+#[derive(Clone, Copy)]
+pub struct States {
+    /// The papers' own, the refused ones among them.
+    pub worked: &'static [[u64; 2]],
+    /// Besides those: SPLIT and not, near the critical point, and the densest.
+    pub others: &'static [[u64; 2]],
+    /// A SPLIT one, and two ONE states of the same gas density.
+    pub split: [u64; 2],
+    pub as_split: [[u64; 2]; 2],
+    /// The hottest SPLIT one with the roots nearest to each other that a wide search met, which for each fluid
+    /// are 32,452 and 34,028.
+    pub hottest_split: [u64; 2],
+}
+
+impl Fluid {
+    /// A state of this fluid.
+    pub fn at(&self, [millikelvin, pascals]: [u64; 2]) -> [u64; 3] {
+        [self.number, millikelvin, pascals]
+    }
+}
+
+/// All fluids, in the order of their numbers, which is that of a sheet's sections: a further one is a further entry.
+/// Nitrogen's figures are those of Table 2 of source document 000.
 pub const FLUIDS: [Fluid; 3] = [
     Fluid {
         number: HYDROGEN,
@@ -33,6 +59,22 @@ pub const FLUIDS: [Fluid; 3] = [
         coldest: 14_000,
         molar_mass: MOLAR_MASS_OF_HYDROGEN,
         critical: critical_of_hydrogen,
+        critical_millikelvin: 32_786,
+        states: States {
+            worked: &[[300_000, 1_000_000], [1_000_000, 10_000]],
+            others: &[
+                [14_000, 10_000],
+                [14_000, 50_000_000],
+                [20_000, 100_000],
+                [30_000, 800_000],
+                [32_000, 1_200_000],
+                [33_000, 1_300_000],
+                [25_000, 50_000_000],
+            ],
+            split: [25_000, 200_000],
+            as_split: [[300_000, 2_763_161], [300_000, 2_763_162]],
+            hottest_split: [32_790, 1_226_311],
+        },
     },
     Fluid {
         number: OXYGEN,
@@ -43,6 +85,30 @@ pub const FLUIDS: [Fluid; 3] = [
             millikelvin: 154_576,
             pascals: 5_042_000,
         },
+        critical_millikelvin: 154_576,
+        states: States {
+            worked: &[
+                [300_000, 1_000_000],
+                [120_000, 500_000],
+                [55_999, 500_000],
+                [56_000, 9_999],
+                [56_000, 10_000],
+                [56_000, 50_000_000],
+            ],
+            others: &[
+                [56_000, 20_000],
+                [90_188, 101_325],
+                [100_000, 250_000],
+                [140_000, 2_900_000],
+                [154_000, 4_950_000],
+                [154_576, 5_042_000],
+                [160_000, 6_000_000],
+                [1_000_000, 50_000_000],
+            ],
+            split: [120_000, 500_000],
+            as_split: [[300_000, 1_335_718], [300_000, 1_335_719]],
+            hottest_split: [154_591, 5_040_840],
+        },
     },
     Fluid {
         number: NITROGEN,
@@ -52,6 +118,26 @@ pub const FLUIDS: [Fluid; 3] = [
         critical: |_| Critical {
             millikelvin: 126_192,
             pascals: 3_395_800,
+        },
+        critical_millikelvin: 126_192,
+        states: States {
+            worked: &[
+                [300_000, 1_000_000],
+                [90_000, 300_000],
+                [63_999, 500_000],
+                [64_000, 9_999],
+                [64_000, 10_000],
+                [64_000, 50_000_000],
+            ],
+            others: &[
+                [77_355, 101_325],
+                [115_000, 2_000_000],
+                [126_000, 3_370_000],
+                [130_000, 4_000_000],
+            ],
+            split: [90_000, 300_000],
+            as_split: [[300_000, 1_086_317], [300_000, 1_086_318]],
+            hottest_split: [126_204, 3_395_018],
         },
     },
 ];
@@ -470,7 +556,7 @@ mod tests {
         ];
         let mut random = Random(16);
         for _ in 0..100_000 {
-            let fluid = random.number() % 3;
+            let fluid = random.number() % FLUIDS.len() as u64;
             let [millikelvin, pascals, root] =
                 [HOTTEST, HIGHEST_PRESSURE, 1_100_000].map(|most| random.magnitude(most).max(1));
             let [t, p, z] = [millikelvin, pascals, root].map(u128::from);
@@ -578,7 +664,32 @@ mod tests {
     }
 
     /// The lowest temperature of each fluid, as the papers have it.
-    const COLDEST: [(u64, u64); 3] = [(HYDROGEN, 14_000), (OXYGEN, 56_000), (NITROGEN, 64_000)];
+    #[test]
+    fn coldest_of_the_fluids() {
+        let coldest = FLUIDS.map(|fluid| fluid.coldest);
+        assert_eq!(coldest, [14_000, 56_000, 64_000]);
+    }
+
+    /// What is said of a fluid's critical temperature and of its SPLIT states.
+    #[test]
+    fn critical_temperatures_and_split_states() {
+        for fluid in FLUIDS {
+            let own = fluid.critical_millikelvin;
+            assert_eq!(critical(fluid.number, own).millikelvin, own);
+            assert!(critical(fluid.number, own + 1).millikelvin <= own);
+            let at = |[millikelvin, pascals]: [u64; 2]| reply(fluid.number, millikelvin, pascals);
+            let split = at(fluid.states.split);
+            assert_eq!(split.kind, SPLIT);
+            for one in fluid.states.as_split.map(at) {
+                assert_eq!((one.kind, one.gas_density), (ONE, split.gas_density));
+            }
+            let [millikelvin, pascals] = fluid.states.hottest_split;
+            let hottest = at([millikelvin, pascals]);
+            assert_eq!((hottest.dense_root, hottest.gas_root), (32_452, 34_028));
+            // a millikelvin above, t is no longer 10,000
+            assert_eq!(at([millikelvin + 1, pascals]).kind, ONE);
+        }
+    }
 
     /// One below, at and one above each end of a range, with every such value of the other number and
     /// with a good, a low and a high one; a temperature out of range is told before a pressure.
@@ -595,7 +706,12 @@ mod tests {
             (50_000_001, 32),
             (u64::MAX, 32),
         ];
-        for (fluid, coldest) in COLDEST {
+        for Fluid {
+            number: fluid,
+            coldest,
+            ..
+        } in FLUIDS
+        {
             let temperatures = [
                 (0, 21),
                 (coldest - 1, 21),
@@ -675,12 +791,14 @@ mod tests {
         let mut random = Random(18);
         let mut split = 0;
         for _ in 0..1000 {
-            let (fluid, coldest) = COLDEST[random.number() as usize % COLDEST.len()];
+            let Fluid {
+                number, coldest, ..
+            } = FLUIDS[random.number() as usize % FLUIDS.len()];
             let millikelvin = coldest + random.number() % (2 * coldest);
             let pascals = LOWEST_PRESSURE + random.magnitude(2_000_000);
-            let whole = reply(fluid, millikelvin, pascals);
+            let whole = reply(number, millikelvin, pascals);
             let [gas, dense] =
-                [GAS, DENSE].map(|side| side_reply(fluid, millikelvin, pascals, side));
+                [GAS, DENSE].map(|side| side_reply(number, millikelvin, pascals, side));
             assert_eq!(gas, one_side(whole.gas_root, whole.gas_density));
             assert_eq!(dense, one_side(whole.dense_root, whole.dense_density));
             assert_eq!(gas.root == dense.root, whole.kind == ONE);
@@ -793,8 +911,8 @@ mod tests {
     /// No root is above N + b, and b is greatest at the lowest temperature and the highest pressure.
     #[test]
     fn every_root_fits_three_bytes() {
-        for (fluid, coldest) in COLDEST {
-            let [.., b] = coefficients(fluid, coldest, HIGHEST_PRESSURE);
+        for fluid in FLUIDS {
+            let [.., b] = coefficients(fluid.number, fluid.coldest, HIGHEST_PRESSURE);
             assert!(N + b < 1 << 24);
         }
     }

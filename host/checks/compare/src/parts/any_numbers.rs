@@ -10,7 +10,7 @@ use crate::comparison::{Comparison, Outcome};
 use crate::workers::Unit;
 use second::arrival::WIDEST_LINE;
 use second::random::Random;
-use second::sheet::{EXAMPLE, LARGEST_COUNT, LONGEST, TEN_NINES};
+use second::sheet::{EXAMPLE, LARGEST_COUNT, LONGEST, SECTIONS, TEN_NINES};
 use second::sheet_list::{any_text, lines_in_any_order, one_of, List};
 
 const UNITS: u64 = 8;
@@ -26,7 +26,7 @@ const BOUNDS: [u64; 10] = [
     100,
     LARGEST_COUNT,
     2 * LARGEST_COUNT,
-    3 * LARGEST_COUNT,
+    SECTIONS as u64 * LARGEST_COUNT,
     LONGEST as u64,
     1_000_000_000,
     TEN_NINES,

@@ -119,7 +119,7 @@ fn end_of(call: &Call) -> (u64, u64, [u64; REPORT]) {
 mod tests {
     use super::super::adding::Adding;
     use super::*;
-    use crate::call::{Function, REPORTED_AHEAD, REPORTED_ROOM};
+    use crate::call::{Function, AHEAD, REPORTED_ROOM};
 
     const GOOD: &[u8] = b"1\n300000 1000000\n0\n0\n";
 
@@ -127,10 +127,10 @@ mod tests {
         take: Function::ReportTake,
         end: Function::ReportEnd,
         is_known: |call| call.reporting.is_some(),
-        sum: REPORTED_AHEAD,
+        sum: AHEAD,
         behind_part: |_| (),
         at_end: |call, sum| {
-            call.lists[REPORTED_ROOM + REPORTED_AHEAD..][..REPORT].fill(0);
+            call.lists[REPORTED_ROOM + AHEAD..][..REPORT].fill(0);
             call.places[REPORT_PLACE] = sum;
         },
         change: |_| (),

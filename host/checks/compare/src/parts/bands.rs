@@ -2,16 +2,16 @@
 //! both sides of where the gas root jumps, from one pressure to the next and from one scaling to the next, and for
 //! some states with every scaling.
 
-use super::split::{around, below_critical, changes, last_before_change};
-use super::states::{all_ends, any_state, FLUID_NUMBERS};
-use super::{of_any_magnitude, spread_over, unit, FLUIDS, WORKED};
+use super::split::{around, below_critical, changes, isotherm, last_before_change};
+use super::states::{all_ends, any_state, at_every_fluid};
+use super::{of_any_magnitude, spread_over, unit, worked};
 use crate::call::Call;
 use crate::comparison::{Comparison, Outcome};
 use crate::workers::Unit;
 use second::band::{LEAST, MOST, NONE};
 use second::cubic::N;
 use second::random::Random;
-use second::state::LOWEST_PRESSURE;
+use second::state::{Fluid, FLUIDS, LOWEST_PRESSURE};
 
 const PART: &str = "bands";
 
@@ -29,9 +29,8 @@ const UNITS: u64 = 20;
 /// From each fluid's lowest temperature up to the critical one.
 const ISOTHERMS: u64 = 12;
 
-/// At a scaling of 1.5 the critical pressure is 1.5^(5/3) = 1.97 times as high. Without it is 5,042,000 Pa for oxygen
-/// and less for the others.
-const HIGHEST_SPLIT_WHEN_SCALED: u64 = 10_000_000;
+/// Above every fluid's critical pressure at a scaling of 1.5, which is 1.5^(5/3) = 1.97 times that without.
+pub const HIGHEST_SPLIT_WHEN_SCALED: u64 = 10_000_000;
 
 /// The ends of the range, the scaling that changes nothing, their neighbours, and the least numbers.
 const NEAR: [u64; 11] = [
@@ -52,10 +51,8 @@ const NEAR: [u64; 11] = [
 const OF_ALL_MAGNITUDES: usize = 200;
 
 pub fn units() -> Vec<Unit> {
-    let at_the_ends =
-        FLUID_NUMBERS.map(|fluid| unit(PART, move |comparison| ends(comparison, fluid)));
-    let mut units = Vec::from(at_the_ends);
-    for state in WORKED {
+    let mut units = Vec::from_iter(at_every_fluid(PART, ends));
+    for state in worked() {
         units.push(unit(PART, move |comparison| {
             any_scalings(comparison, state)
         }));
@@ -141,15 +138,15 @@ fn some_bands(comparison: &mut Comparison, state: [u64; 3], random: &mut Random)
 /// scaling too. The widest falls that there are lie just above it for the largest scaling at the lowest
 /// temperature, which is that of the first isotherm.
 fn edges(comparison: &mut Comparison, which: u64) -> Outcome {
-    for (fluid, coldest, critical) in FLUIDS {
-        let millikelvin = coldest + (critical - coldest) * which / ISOTHERMS;
+    for fluid in FLUIDS {
+        let millikelvin = isotherm(fluid, [which, ISOTHERMS]);
         for scaling in [LEAST, NONE, MOST] {
             let edges = changes(|pascals| {
-                let state = [fluid, millikelvin, pascals];
+                let state = fluid.at([millikelvin, pascals]);
                 above_a_third(root_at(comparison, state, scaling))
             });
             for pascals in edges.into_iter().flat_map(around) {
-                beside(comparison, [fluid, millikelvin, pascals], scaling)?;
+                beside(comparison, fluid.at([millikelvin, pascals]), scaling)?;
             }
         }
     }
@@ -178,7 +175,7 @@ fn beside(comparison: &mut Comparison, state: [u64; 3], scaling: u64) -> Outcome
 /// next; and the last scaling before that.
 fn falling(
     comparison: &mut Comparison,
-    fluid: (u64, u64, u64),
+    fluid: Fluid,
     least_fall: u64,
     random: &mut Random,
 ) -> ([u64; 3], u64) {
@@ -196,22 +193,18 @@ fn falling(
 
 /// Temperatures up to about the critical one at a scaling of 1.5, which is 1.5^(2/3) = 1.31 times as high, and
 /// pressures of all magnitudes.
-fn perhaps_split_when_scaled(
-    (fluid, coldest, critical): (u64, u64, u64),
-    random: &mut Random,
-) -> [u64; 3] {
-    let hottest = critical + critical / 3;
-    let millikelvin = coldest + random.number() % (hottest - coldest + 1);
+fn perhaps_split_when_scaled(fluid: Fluid, random: &mut Random) -> [u64; 3] {
+    let hottest = fluid.critical_millikelvin + fluid.critical_millikelvin / 3;
+    let millikelvin = fluid.coldest + random.number() % (hottest - fluid.coldest + 1);
     let pascals = LOWEST_PRESSURE + random.magnitude(HIGHEST_SPLIT_WHEN_SCALED - LOWEST_PRESSURE);
-    [fluid, millikelvin, pascals]
+    fluid.at([millikelvin, pascals])
 }
 
 /// For each fluid a state from anywhere, one below the critical temperature, and two whose gas root falls far.
 fn every_scaling_of_some(comparison: &mut Comparison, seed: u64) -> Outcome {
     let mut random = Random(seed);
     for fluid in FLUIDS {
-        let (number, coldest, _) = fluid;
-        every_scaling(comparison, any_state(number, coldest, &mut random))?;
+        every_scaling(comparison, any_state(fluid, &mut random))?;
         every_scaling(comparison, below_critical(fluid, &mut random))?;
         for least_fall in LEAST_FALLS {
             let (state, _) = falling(comparison, fluid, least_fall, &mut random);

@@ -1,7 +1,7 @@
 //! Books that hold anything, of right and wrong lengths, and books that many calls share, of the whole form
 //! and of the one that names a side, beside the books of numbers that document 01 had before C-19.
 
-use super::{unit, NO_SIDES, WORKED};
+use super::{states_of, unit, worked, NO_SIDES};
 use crate::call::Call;
 use crate::comparison::{Comparison, Outcome};
 use crate::workers::Unit;
@@ -36,29 +36,6 @@ pub const SLOTS: [u64; 13] = [
     u64::MAX,
 ];
 
-/// Besides the worked ones: SPLIT and not, near the critical point, and the densest.
-const OTHERS: [[u64; 3]; 19] = [
-    [0, 14_000, 10_000],
-    [0, 14_000, 50_000_000],
-    [0, 20_000, 100_000],
-    [0, 30_000, 800_000],
-    [0, 32_000, 1_200_000],
-    [0, 33_000, 1_300_000],
-    [0, 25_000, 50_000_000],
-    [1, 56_000, 20_000],
-    [1, 90_188, 101_325],
-    [1, 100_000, 250_000],
-    [1, 140_000, 2_900_000],
-    [1, 154_000, 4_950_000],
-    [1, 154_576, 5_042_000],
-    [1, 160_000, 6_000_000],
-    [1, 1_000_000, 50_000_000],
-    [2, 77_355, 101_325],
-    [2, 115_000, 2_000_000],
-    [2, 126_000, 3_370_000],
-    [2, 130_000, 4_000_000],
-];
-
 /// Past the told length, so that what is written there shows: to whoever takes four bytes to a slot, the
 /// last one ends with them.
 pub const BEHIND: usize = BOOK_SLOTS;
@@ -67,14 +44,18 @@ const CHAINS: u64 = 8;
 const CALLS_OF_A_CHAIN: usize = 8000;
 
 pub fn units() -> Vec<Unit> {
-    let states = WORKED.into_iter().chain(OTHERS);
     let mut units = Vec::new();
-    for state in states {
+    for state in states() {
         units.push(unit(PART, move |comparison| every_start(comparison, state)));
         units.push(unit(PART, move |comparison| every_slot(comparison, state)));
     }
     units.extend((0..CHAINS).map(|seed| unit(PART, move |comparison| chain(comparison, seed))));
     units
+}
+
+/// The worked ones, and others of all fluids.
+fn states() -> Vec<[u64; 3]> {
+    [worked(), states_of(|fluid| fluid.states.others)].concat()
 }
 
 /// Every length and slot with every starting point that could mislead, in the slot alone among other
@@ -199,7 +180,7 @@ fn chain(comparison: &mut Comparison, seed: u64) -> Outcome {
 /// A state, a side where one is named, and a slot: some of each are refused.
 fn any_question(random: &mut Random) -> ([u64; 3], Option<u64>, u64) {
     let any = random.number();
-    let states = [&WORKED[..], &OTHERS[..]].concat();
+    let states = states();
     let mut state = states[any as usize % states.len()];
     // a small step away, as from one reading to the next
     state[2] += any >> 60;

@@ -1,7 +1,7 @@
 //! Lists of several claims: with refused ones at every place, and of many; and lists of unequal lengths.
 
-use super::claims::{ask, ask_told, claim, roots, Claim, PART, SPLIT_STATES};
-use super::{combinations, unit, WORKED};
+use super::claims::{ask, ask_told, claim, roots, Claim, PART};
+use super::{combinations, split_states, unit, worked};
 use crate::call::Call;
 use crate::comparison::{Comparison, Outcome};
 use crate::workers::Unit;
@@ -142,7 +142,7 @@ fn unequal_lengths(comparison: &mut Comparison) -> Outcome {
 /// Claims for both sides of the worked states and of a SPLIT state of each fluid: all stand.
 fn standing(comparison: &mut Comparison) -> Vec<Claim> {
     let mut claims = Vec::new();
-    for state in SPLIT_STATES.into_iter().chain(WORKED) {
+    for state in split_states().into_iter().chain(worked()) {
         let whole = comparison.second().reply(state);
         if whole.number == 0 {
             claims.push(claim(state, GAS, whole.gas_root));

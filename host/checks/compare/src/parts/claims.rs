@@ -3,8 +3,11 @@
 //! tip; and for a SPLIT state of each fluid every root.
 
 use super::split::{edges_on, last_before_change, tip};
-use super::states::{all_ends, FLUID_NUMBERS};
-use super::{beside, of_all_magnitudes, of_any_magnitude, spread_over, unit, NO_SIDES, WORKED};
+use super::states::{all_ends, at_every_fluid};
+use super::{
+    beside, of_all_magnitudes, of_any_magnitude, split_states, spread_over, unit, worked_and_split,
+    NO_SIDES,
+};
 use crate::call::Call;
 use crate::comparison::{Comparison, Outcome};
 use crate::workers::Unit;
@@ -21,13 +24,6 @@ const UNITS: u64 = 20;
 
 /// From each fluid's lowest temperature up to the critical one.
 const ISOTHERMS: u64 = 12;
-
-/// A SPLIT state of each fluid.
-pub const SPLIT_STATES: [[u64; 3]; 3] = [
-    [0, 25_000, 200_000],
-    [1, 120_000, 500_000],
-    [2, 90_000, 300_000],
-];
 
 /// How far from a root: nothing, a step, and what is nothing to whoever keeps 16, 17, 32 or 63 bits.
 const NEAR: [u64; 6] = [0, 1, 1 << 16, 1 << 17, 1 << 32, 1 << 63];
@@ -53,14 +49,11 @@ pub type Claim = [u64; 5];
 const BEHIND: Claim = [u64::MAX; 5];
 
 pub fn units() -> Vec<Unit> {
-    let at_the_ends =
-        FLUID_NUMBERS.map(|fluid| unit(PART, move |comparison| ends(comparison, fluid)));
-    let mut units = Vec::from(at_the_ends);
-    // no worked state of hydrogen is SPLIT
-    for state in WORKED.into_iter().chain([SPLIT_STATES[0]]) {
+    let mut units = Vec::from_iter(at_every_fluid(PART, ends));
+    for state in worked_and_split() {
         units.push(unit(PART, move |comparison| any_claims(comparison, state)));
     }
-    for state in SPLIT_STATES {
+    for state in split_states() {
         units.push(unit(PART, move |comparison| every_root(comparison, state)));
     }
     for seed in 0..UNITS {

@@ -9,29 +9,10 @@ use second::sheet::{EXAMPLE, LONGEST, SECTIONS, TEN_NINES};
 use second::sheet_list::{damage, one_of, written, List};
 use second::state::{Fluid, FLUIDS, HIGHEST_PRESSURE, HOTTEST, LOWEST_PRESSURE};
 use second::writer::section;
+use std::array::from_fn;
 
 /// A temperature and a pressure.
 type State = [u64; 2];
-
-/// For each fluid three states of one gas density, of which the first is SPLIT, with a dense density above it, and
-/// the others are ONE.
-const MIDDLE: [[State; 3]; SECTIONS] = [
-    [
-        [25_000, 200_000],
-        [300_000, 2_763_161],
-        [300_000, 2_763_162],
-    ],
-    [
-        [120_000, 500_000],
-        [300_000, 1_335_718],
-        [300_000, 1_335_719],
-    ],
-    [
-        [90_000, 300_000],
-        [300_000, 1_086_317],
-        [300_000, 1_086_318],
-    ],
-];
 
 /// Units of random sheets, and how many each of them has.
 const UNITS: u64 = 4;
@@ -47,9 +28,15 @@ fn densities(fluid: Fluid) -> [Choice; 3] {
     let coldest = fluid.coldest;
     [
         vec![[HOTTEST, low], [HOTTEST, low + 1], [HOTTEST - 1, low]],
-        MIDDLE[fluid.number as usize].to_vec(),
+        middle(fluid),
         vec![[coldest, high], [coldest, high - 1], [coldest, high - 10]],
     ]
+}
+
+/// Of the density between: the first is SPLIT, with a dense density above it, and the others are ONE.
+fn middle(fluid: Fluid) -> Choice {
+    let states = fluid.states;
+    [&[states.split][..], &states.as_split].concat()
 }
 
 /// States that are refused by 21, 22, 31 and 32, also where a later refusal would apply.
@@ -206,9 +193,10 @@ fn with_others(
 /// States from anywhere in the ranges.
 fn any_states(visit: Visit) -> Outcome {
     let mut random = Random(0);
-    for counts in [[1000, 1000, 1000], [40, 30, 20], [5, 4, 3]] {
+    let falling = |first, step| from_fn(|section| first - step * section as u64);
+    for counts in [[1000; SECTIONS], falling(40, 10), falling(5, 1)] {
         let sheet = written(counts, |fluid| {
-            let [_, millikelvin, pascals] = any_state(fluid.number, fluid.coldest, &mut random);
+            let [_, millikelvin, pascals] = any_state(fluid, &mut random);
             [millikelvin, pascals]
         });
         visit_sheet(visit, &sheet)?;
@@ -266,7 +254,7 @@ fn damaged(visit: Visit) -> Outcome {
 mod tests {
     use super::*;
     use second::report::{report, Section};
-    use second::state::{reply, ONE, SPLIT};
+    use second::state::reply;
 
     /// The states of a choice have one density, those of another a larger one, and the dense one of a SPLIT state is
     /// larger than its own.
@@ -283,10 +271,6 @@ mod tests {
                 assert!(density > last);
                 last = density;
             }
-            let [split, ones @ ..] = MIDDLE[fluid.number as usize];
-            let kind =
-                |[millikelvin, pascals]: State| reply(fluid.number, millikelvin, pascals).kind;
-            assert_eq!((kind(split), ones.map(kind)), (SPLIT, [ONE; 2]));
         }
     }
 

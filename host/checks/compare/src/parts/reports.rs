@@ -11,7 +11,7 @@ use crate::call::{Call, REPORTING};
 use crate::comparison::{Comparison, Outcome};
 use crate::workers::Unit;
 use second::random::Random;
-use second::sheet::EXAMPLE;
+use second::sheet::{EXAMPLE, LARGEST_COUNT, SECTIONS};
 use second::sheet_list::one_of;
 
 const PART: &str = "reports";
@@ -70,7 +70,7 @@ fn cut_everywhere(comparison: &mut Comparison) -> Outcome {
 fn full_sheets_whole_and_in_single_bytes(comparison: &mut Comparison) -> Outcome {
     let mut random = Random(0);
     let mut group = Group::<Reports>::new(comparison);
-    for sheet in [mixed([1000; 3], &mut random), fullest(0)] {
+    for sheet in [mixed([LARGEST_COUNT; SECTIONS], &mut random), fullest(0)] {
         let length = sheet.len();
         let cuts = vec![
             vec![length],

@@ -5,11 +5,12 @@ use crate::call::Call;
 use crate::comparison::{Comparison, Outcome};
 use crate::workers::Unit;
 use second::random::Random;
-use second::sheet::{state_lines, LONGEST, SECTIONS, TEN_NINES};
+use second::sheet::{state_lines, LARGEST_COUNT, LONGEST, SECTIONS, TEN_NINES};
 use second::sheet_list::{
     any_text, damage, distributions, full_sheet, insert, lines_in_any_order, list, written, List,
     LARGER, WIDEST,
 };
+use std::array::from_fn;
 
 const PART: &str = "sheets";
 
@@ -165,17 +166,17 @@ fn any_texts(visit: Visit, seed: u64) -> Outcome {
 /// Counts on both sides of 1000, with numbers of all magnitudes and with the widest.
 fn long_sheets(visit: Visit) -> Outcome {
     let mut random = Random(0);
-    for counts in [
-        [17, 0, 0],
-        [0, 17, 0],
-        [0, 0, 17],
-        [255, 256, 257],
-        [1000, 999, 1000],
-        [1000, 1000, 1000],
-        [1001, 0, 0],
-        [0, 1001, 0],
-        [0, 0, 1001],
-    ] {
+    let alone = |count| {
+        let sections = 0..SECTIONS;
+        sections.map(move |section| from_fn(|other| if other == section { count } else { 0 }))
+    };
+    let about_256 = from_fn(|section| 255 + section as u64);
+    let full = [LARGEST_COUNT; SECTIONS];
+    let mut one_less = full;
+    one_less[1] -= 1;
+    let several = [about_256, one_less, full];
+    let counts = alone(SHORT + 1).chain(several);
+    for counts in counts.chain(alone(LARGEST_COUNT + 1)) {
         let any = written(counts, |_| {
             [TEN_NINES; 2].map(|most| random.magnitude(most))
         });

@@ -1,38 +1,39 @@
 //! Sides of any number, together with all else that can be refused: a state, a slot, a book's length.
 
 use super::books::{any_book, BEHIND, LENGTHS, SLOTS};
-use super::states::{all_ends, FLUID_NUMBERS};
-use super::{of_any_magnitude, unit, NO_SIDES, WORKED};
+use super::states::{all_ends, at_every_fluid};
+use super::{of_any_magnitude, split_states, unit, worked_and_split, NO_SIDES};
 use crate::call::Call;
 use crate::comparison::{Comparison, Outcome};
 use crate::workers::Unit;
 use second::random::Random;
-use second::state::{BOOK_BYTES, BOOK_SLOTS, DENSE, GAS};
+use second::state::{BOOK_BYTES, BOOK_SLOTS, DENSE, GAS, HIGHEST_PRESSURE, HOTTEST};
 
 const PART: &str = "sides";
-
-/// Besides the worked ones: hydrogen where it is SPLIT, and the refusals that no worked state has.
-const OTHERS: [[u64; 3]; 6] = [
-    [0, 25_000, 200_000],
-    [0, 1_000_001, u64::MAX],
-    [1, u64::MAX, 500_000],
-    [1, 120_000, 50_000_001],
-    [2, 1_000_001, 500_000],
-    [2, 90_000, 50_000_001],
-];
 
 /// For each of those states.
 const ANY_SIDES: usize = 1000;
 
 pub fn units() -> Vec<Unit> {
-    let at_the_ends =
-        FLUID_NUMBERS.map(|fluid| unit(PART, move |comparison| ends(comparison, fluid)));
-    let mut units = Vec::from(at_the_ends);
-    for state in WORKED.into_iter().chain(OTHERS) {
+    let mut units = Vec::from_iter(at_every_fluid(PART, ends));
+    for state in worked_and_split().into_iter().chain(refused()) {
         units.push(unit(PART, move |comparison| every_side(comparison, state)));
         units.push(unit(PART, move |comparison| any_sides(comparison, state)));
     }
     units
+}
+
+/// States of every fluid with the refusals that no worked one has.
+fn refused() -> impl Iterator<Item = [u64; 3]> {
+    split_states()
+        .into_iter()
+        .flat_map(|[fluid, millikelvin, pascals]| {
+            [
+                [fluid, HOTTEST + 1, u64::MAX],
+                [fluid, u64::MAX, pascals],
+                [fluid, millikelvin, HIGHEST_PRESSURE + 1],
+            ]
+        })
 }
 
 /// A side that is neither at all combinations of the ends of the ranges: without a book, with one at its

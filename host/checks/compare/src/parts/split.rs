@@ -2,12 +2,12 @@
 //! point.
 
 use super::states::every_form;
-use super::{spread_over, unit, Asks, FLUIDS};
+use super::{spread_over, unit, Asks};
 use crate::comparison::{Comparison, Outcome};
 use crate::workers::Unit;
 use second::cubic::N;
 use second::random::Random;
-use second::state::{critical, Reply, HIGHEST_PRESSURE, LOWEST_PRESSURE};
+use second::state::{critical, Fluid, Reply, FLUIDS, HIGHEST_PRESSURE, LOWEST_PRESSURE};
 
 const PART: &str = "split";
 
@@ -20,14 +20,7 @@ const UNITS: u64 = 12;
 /// The isotherms of the tip lie 1, 2, 4 and so on to 4096 mK below the critical temperature.
 const DOUBLINGS: u32 = 12;
 
-/// The hottest SPLIT state of each fluid, with the roots nearest to each other that a wide search met: 32,452 and 34,028.
-const HOTTEST_SPLIT: [[u64; 3]; 3] = [
-    [0, 32_790, 1_226_311],
-    [1, 154_591, 5_040_840],
-    [2, 126_204, 3_395_018],
-];
-
-/// No state is SPLIT above it, as the critical pressure of oxygen is 5,042,000 Pa and the others' are less.
+/// No state is SPLIT above it, as every fluid's critical pressure is below.
 const HIGHEST_SPLIT: u64 = 5_100_000;
 
 pub fn units() -> Vec<Unit> {
@@ -43,23 +36,23 @@ pub fn units() -> Vec<Unit> {
 }
 
 /// Temperatures below the critical one, nearer to it more often, and pressures of all magnitudes.
-pub fn below_critical(
-    (fluid, coldest, critical): (u64, u64, u64),
-    random: &mut Random,
-) -> [u64; 3] {
-    let millikelvin = critical - random.magnitude(critical - coldest);
+pub fn below_critical(fluid: Fluid, random: &mut Random) -> [u64; 3] {
+    let critical = fluid.critical_millikelvin;
+    let millikelvin = critical - random.magnitude(critical - fluid.coldest);
     let pascals = LOWEST_PRESSURE + random.magnitude(HIGHEST_SPLIT - LOWEST_PRESSURE);
-    [fluid, millikelvin, pascals]
+    fluid.at([millikelvin, pascals])
 }
 
 fn edges(comparison: &mut Comparison, seed: u64) -> Outcome {
     let mut random = Random(seed);
-    for (fluid, coldest, critical) in FLUIDS {
+    for fluid in FLUIDS {
+        let critical = fluid.critical_millikelvin;
         for which in 0..ISOTHERMS {
             // evenly down from the critical temperature, other ones in each unit
             let part = which * UNITS + seed;
-            let millikelvin = critical - (critical - coldest) * part / (ISOTHERMS * UNITS);
-            ask_around_edges(comparison, [fluid, millikelvin], &mut random, every_form)?;
+            let millikelvin = critical - (critical - fluid.coldest) * part / (ISOTHERMS * UNITS);
+            let isotherm = [fluid.number, millikelvin];
+            ask_around_edges(comparison, isotherm, &mut random, every_form)?;
         }
     }
     Ok(())
@@ -68,11 +61,16 @@ fn edges(comparison: &mut Comparison, seed: u64) -> Outcome {
 /// Both sides of each edge, on one of so many isotherms of each fluid, evenly up from the lowest temperature.
 pub fn edges_on(comparison: &mut Comparison, [which, isotherms]: [u64; 2], ask: Asks) -> Outcome {
     let mut random = Random(which);
-    for (fluid, coldest, critical) in FLUIDS {
-        let millikelvin = coldest + (critical - coldest) * which / isotherms;
-        ask_around_edges(comparison, [fluid, millikelvin], &mut random, ask)?;
+    for fluid in FLUIDS {
+        let millikelvin = isotherm(fluid, [which, isotherms]);
+        ask_around_edges(comparison, [fluid.number, millikelvin], &mut random, ask)?;
     }
     Ok(())
+}
+
+/// One of so many temperatures, evenly up from the lowest to below the critical one.
+pub fn isotherm(fluid: Fluid, [which, isotherms]: [u64; 2]) -> u64 {
+    fluid.coldest + (fluid.critical_millikelvin - fluid.coldest) * which / isotherms
 }
 
 /// Both sides of each edge of an isotherm.
@@ -129,22 +127,25 @@ pub fn around(edge: u64) -> impl Iterator<Item = u64> {
 /// less the roots of a SPLIT state differ.
 pub fn tip(comparison: &mut Comparison, ask: Asks) -> Outcome {
     let mut random = Random(0);
-    for (fluid, _, critical) in FLUIDS {
-        for millikelvin in (0..=DOUBLINGS).map(|doublings| critical - (1 << doublings)) {
-            let isotherm = [fluid, millikelvin];
+    for fluid in FLUIDS {
+        for doublings in 0..=DOUBLINGS {
+            let millikelvin = fluid.critical_millikelvin - (1 << doublings);
+            let isotherm = [fluid.number, millikelvin];
             let lower = last_above_a_third(comparison, isotherm, |reply| reply.dense_root);
             let upper = last_above_a_third(comparison, isotherm, |reply| reply.gas_root);
             for edge in [lower, upper] {
-                ask_around(comparison, [fluid, millikelvin, edge], &mut random, ask)?;
+                ask_around(comparison, fluid.at([millikelvin, edge]), &mut random, ask)?;
             }
             for part in 1..8 {
                 let between = lower + (upper - lower) * part / 8;
-                ask(comparison, [fluid, millikelvin, between], &mut random)?;
+                ask(comparison, fluid.at([millikelvin, between]), &mut random)?;
             }
         }
-    }
-    for state in HOTTEST_SPLIT {
-        ask(comparison, state, &mut random)?;
+        ask(
+            comparison,
+            fluid.at(fluid.states.hottest_split),
+            &mut random,
+        )?;
     }
     Ok(())
 }
@@ -200,19 +201,14 @@ pub fn last_before_change(
 #[cfg(test)]
 mod tests {
     use super::*;
-    use second::state::{reply, ONE};
+    use crate::parts::bands::HIGHEST_SPLIT_WHEN_SCALED;
 
-    /// A millikelvin above, t is no longer 10,000.
     #[test]
-    fn hottest_split_states() {
-        for [fluid, millikelvin, pascals] in HOTTEST_SPLIT {
-            let Reply {
-                dense_root,
-                gas_root,
-                ..
-            } = reply(fluid, millikelvin, pascals);
-            assert_eq!((dense_root, gas_root), (32_452, 34_028));
-            assert_eq!(reply(fluid, millikelvin + 1, pascals).kind, ONE);
+    fn pressures_above_the_critical_ones() {
+        for fluid in FLUIDS {
+            let critical = critical(fluid.number, fluid.critical_millikelvin).pascals;
+            assert!(critical < HIGHEST_SPLIT);
+            assert!(197 * critical < 100 * HIGHEST_SPLIT_WHEN_SCALED);
         }
     }
 }

@@ -2,13 +2,13 @@
 //! of a range, and a spread over all temperatures and all magnitudes of pressure.
 
 use super::books::{any_book, full_book};
-use super::{spread_over, unit, WORKED};
+use super::{spread_over, unit, worked, NO_FLUID};
 use crate::call::Call;
 use crate::comparison::{Comparison, Outcome};
 use crate::workers::Unit;
 use second::random::Random;
 use second::state::{
-    BOOK_BYTES, BOOK_SLOTS, DENSE, GAS, HIGHEST_PRESSURE, HOTTEST, LOWEST_PRESSURE,
+    Fluid, BOOK_BYTES, BOOK_SLOTS, DENSE, FLUIDS, GAS, HIGHEST_PRESSURE, HOTTEST, LOWEST_PRESSURE,
 };
 
 const PART: &str = "states";
@@ -17,44 +17,31 @@ const PART: &str = "states";
 const STATES: usize = 3000;
 const UNITS: u64 = 72;
 
-/// The fluids; the first that are none; those that are fluids to whoever keeps 8 or 32 bits; and the last.
-pub const FLUID_NUMBERS: [u64; 12] = [
-    0,
-    1,
-    2,
-    3,
-    4,
-    1 << 8,
-    (1 << 8) + 1,
-    (1 << 8) + 2,
-    1 << 32,
-    (1 << 32) + 1,
-    (1 << 32) + 2,
-    u64::MAX,
-];
+/// The fluids; the first numbers that are none; those that are fluids to whoever keeps 8 or 32 bits; and the last.
+pub fn fluid_numbers() -> Vec<u64> {
+    let fluids = FLUIDS.map(|fluid| fluid.number);
+    let past = |first: u64| fluids.map(|fluid| first + fluid);
+    let none = [NO_FLUID, NO_FLUID + 1];
+    [
+        &fluids[..],
+        &none,
+        &past(1 << 8),
+        &past(1 << 32),
+        &[u64::MAX],
+    ]
+    .concat()
+}
 
-/// The ends with their neighbours, and what is in range for whoever keeps 32 bits.
-const TEMPERATURES: [u64; 25] = [
+/// The ends with their neighbours but for the lowest temperatures, and what is in range for whoever keeps 32 bits.
+const TEMPERATURES: [u64; 13] = [
     0,
     1,
-    13_998,
-    13_999,
-    14_000,
-    14_001,
-    55_998,
-    55_999,
-    56_000,
-    56_001,
-    63_998,
-    63_999,
-    64_000,
-    64_001,
     300_000,
-    999_998,
-    999_999,
-    1_000_000,
-    1_000_001,
-    1_000_002,
+    HOTTEST - 2,
+    HOTTEST - 1,
+    HOTTEST,
+    HOTTEST + 1,
+    HOTTEST + 2,
     (1 << 32) - 1,
     1 << 32,
     (1 << 32) + 300_000,
@@ -85,7 +72,7 @@ const PRESSURES: [u64; 18] = [
 
 pub fn units() -> Vec<Unit> {
     let mut units = vec![unit(PART, worked_points)];
-    units.extend(FLUID_NUMBERS.map(|fluid| unit(PART, move |comparison| ends(comparison, fluid))));
+    units.extend(at_every_fluid(PART, ends));
     units.extend((0..UNITS).map(|seed| {
         unit(PART, move |comparison| {
             spread_over(comparison, [STATES, 0], seed, every_form)
@@ -116,7 +103,7 @@ pub fn every_form(comparison: &mut Comparison, state: [u64; 3], random: &mut Ran
 
 fn worked_points(comparison: &mut Comparison) -> Outcome {
     let mut random = Random(0);
-    for state in WORKED {
+    for state in worked() {
         every_form(comparison, state, &mut random)?;
     }
     Ok(())
@@ -130,19 +117,31 @@ fn ends(comparison: &mut Comparison, fluid: u64) -> Outcome {
     Ok(())
 }
 
-/// All combinations of the ends of the ranges and what lies past them.
+/// One for each number that is a fluid's or might be taken for one.
+pub fn at_every_fluid(
+    part: &'static str,
+    ask: fn(&mut Comparison, u64) -> Outcome,
+) -> impl Iterator<Item = Unit> {
+    let numbers = fluid_numbers().into_iter();
+    numbers.map(move |fluid| unit(part, move |comparison| ask(comparison, fluid)))
+}
+
+/// All combinations of the ends of the ranges and what lies past them. A fluid's lowest temperature is asked of all.
 pub fn all_ends(fluid: u64) -> impl Iterator<Item = [u64; 3]> {
+    let coldest = FLUIDS.map(|fluid| fluid.coldest).into_iter();
+    let beside_coldest = coldest.flat_map(|coldest| coldest - 2..=coldest + 1);
     TEMPERATURES
         .into_iter()
+        .chain(beside_coldest)
         .flat_map(move |millikelvin| PRESSURES.map(move |pascals| [fluid, millikelvin, pascals]))
 }
 
 /// Half of the pressures of all magnitudes above the lowest, half of them anywhere; temperatures
 /// likewise.
-pub fn any_state(fluid: u64, coldest: u64, random: &mut Random) -> [u64; 3] {
-    let millikelvin = within(random, coldest, HOTTEST);
+pub fn any_state(fluid: Fluid, random: &mut Random) -> [u64; 3] {
+    let millikelvin = within(random, fluid.coldest, HOTTEST);
     let pascals = within(random, LOWEST_PRESSURE, HIGHEST_PRESSURE);
-    [fluid, millikelvin, pascals]
+    fluid.at([millikelvin, pascals])
 }
 
 fn within(random: &mut Random, low: u64, high: u64) -> u64 {

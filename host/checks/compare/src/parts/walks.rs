@@ -2,8 +2,8 @@
 //! states are SPLIT, and on both sides of the edges of that region.
 
 use super::split::edges_on;
-use super::states::{all_ends, FLUID_NUMBERS};
-use super::{of_all_magnitudes, spread_over, unit, WORKED};
+use super::states::{all_ends, at_every_fluid};
+use super::{of_all_magnitudes, spread_over, unit, worked};
 use crate::call::Call;
 use crate::comparison::{Comparison, Outcome};
 use crate::workers::Unit;
@@ -29,10 +29,10 @@ const LAST: u64 = 20;
 const OF_ALL_MAGNITUDES: usize = 200;
 
 pub fn units() -> Vec<Unit> {
-    let at_the_ends =
-        FLUID_NUMBERS.map(|fluid| unit(PART, move |comparison| ends(comparison, fluid)));
-    let mut units = Vec::from(at_the_ends);
-    units.extend(WORKED.map(|state| unit(PART, move |comparison| any_limits(comparison, state))));
+    let mut units = Vec::from_iter(at_every_fluid(PART, ends));
+    for state in worked() {
+        units.push(unit(PART, move |comparison| any_limits(comparison, state)));
+    }
     units.extend((0..UNITS).map(|seed| {
         unit(PART, move |comparison| {
             spread_over(comparison, STATES, seed, beside_needed)

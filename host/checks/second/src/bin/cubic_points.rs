@@ -8,6 +8,7 @@
 
 use second::cubic::{crossings, g, LARGEST_A, LARGEST_B, N};
 use second::random::Random;
+use second::state::{accepted, Reduced, FLUIDS, HIGHEST_PRESSURE};
 use std::collections::HashMap;
 use std::io::{self, BufWriter, Read, Write};
 
@@ -137,11 +138,9 @@ fn ends_of_bounds(list: &mut List) {
         list.point(0, b, 0);
         list.point(LARGEST_A, b, u64::MAX);
     }
-    for (a, b) in [
-        (10_969_036, 954_341),
-        (5_369_500, 237_212),
-        (3_437_284, 251_566),
-    ] {
+    for fluid in FLUIDS {
+        let densest = accepted(fluid.number, fluid.coldest, HIGHEST_PRESSURE);
+        let Reduced { a, b, .. } = densest.expect("a state in range");
         list.all_starts(a, b);
     }
 }
@@ -151,10 +150,11 @@ fn double_roots(list: &mut List) {
     for b in [
         1, 2, 10, 100, 500, 1106, 2000, 4000, 6000, 8000, 8500, 8600, 8640, 8655,
     ] {
-        // the SPLIT states are few near the critical point, where every a is looked at
+        // any SPLIT state will do; they are few near the critical point, where every a is looked at
         let split = (0..60_000)
-            .step_by(7)
+            .step_by(1000)
             .chain(42_000..43_000)
+            .chain((0..60_000).step_by(7))
             .find(|&a| crossings(a, b).len() == 2)
             .expect("a SPLIT state");
         for edge in [

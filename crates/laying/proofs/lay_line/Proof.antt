@@ -1,9 +1,9 @@
--- `woolyard::layout::lay_line` meets its contract: the line, and what was laid of the reply to its state; or zeros. Assumes nothing.
+-- `laying::lay_line` meets its contract: the line, and what was laid of the reply to its state; or zeros. Assumes nothing.
 use mathlib.Core.Path.{refl}
 use borrow.Author.Needs.{needs}
-use Rattle.woolyard.proofs.Laying.{brought-laid}
-use Rattle.woolyard.proofs.layout.lay_line.Statement.{statement}
-use Rattle.woolyard.proofs.layout.lay_line.Tie as tie
+use Rattle.laying.proofs.Laying.{brought-laid}
+use Rattle.laying.proofs.lay_line.Statement.{statement}
+use Rattle.laying.proofs.lay_line.Tie as tie
 
 enum-known-brought : tie.Need-enum-known-brought
 enum-known-brought c = search needs

@@ -1,8 +1,8 @@
--- `woolyard::layout::lay_report` meets its contract: it lays down what the reply's own figures tell. Assumes nothing.
+-- `laying::lay_report` meets its contract: it lays down what the reply's own figures tell. Assumes nothing.
 use mathlib.Core.Path.{refl}
 use borrow.Author.Needs.{needs}
-use Rattle.woolyard.proofs.layout.lay_report.Statement.{statement}
-use Rattle.woolyard.proofs.layout.lay_report.Tie as tie
+use Rattle.laying.proofs.lay_report.Statement.{statement}
+use Rattle.laying.proofs.lay_report.Tie as tie
 
 figures-requires : tie.Need-figures-requires
 figures-requires c κs = search needs
