@@ -1,4 +1,4 @@
--- What is left with a caller of a state line that ended in a part of a sheet.
+-- docs/RULES.md, "A sheet in parts": what is left with a caller of a state line that ended in a part of a sheet.
 use mathlib.Core.Path.{_≡_}
 use mathlib.Core.List.{List, _∷_}
 use Prim.Native.Nat.{ℕ}

@@ -1,4 +1,4 @@
--- What is left with a caller of a report on a sheet.
+-- docs/RULES.md, "The report": what is left with a caller of a report on a sheet.
 use mathlib.Core.Path.{_≡_}
 use mathlib.Core.List.{List}
 use Prim.Native.Nat.{ℕ}

@@ -1,4 +1,4 @@
--- What `woolyard_side` and `woolyard_side_with_book` leave with their caller: the number of the reply, the side's root and density, and
+-- docs/RULES.md, "Sides": what `woolyard_side` and `woolyard_side_with_book` leave with their caller: the number of the reply, the side's root and density, and
 -- the book.
 use mathlib.Core.Path.{_≡_}
 use mathlib.Core.List.{List, _∷_, []}

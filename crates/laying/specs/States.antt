@@ -1,4 +1,4 @@
--- What `woolyard_state` and `woolyard_state_with_book` leave with their caller: the number of the reply, its five figures in their
+-- docs/RULES.md, "Replies" and "The book": what `woolyard_state` and `woolyard_state_with_book` leave with their caller: the number of the reply, its five figures in their
 -- order, and the book.
 use mathlib.Core.Path.{_≡_}
 use mathlib.Core.List.{List, _∷_, []}

@@ -1,4 +1,4 @@
--- What a search promises: its end, as `FallsTo` and `ClimbsTo` of `cubic` say it, for a and b within the bounds, and 0 outside.
+-- docs/RULES.md, "Crossings, roots and kinds": what a search promises: its end, as `FallsTo` and `ClimbsTo` of `cubic` say it, for a and b within the bounds, and 0 outside.
 -- No starting point occurs here.
 use mathlib.Core.Path.{_≡_}
 use Prim.Native.Nat.{ℕ}

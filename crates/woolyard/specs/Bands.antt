@@ -1,4 +1,4 @@
--- What `woolyard_band` leaves with its caller: the number and the two gas roots of the one reply.
+-- docs/RULES.md, "The band": what `woolyard_band` leaves with its caller: the number and the two gas roots of the one reply.
 use mathlib.Core.Path.{_≡_}
 use mathlib.Core.List.{List, _∷_, []}
 use Prim.Native.Nat.{ℕ}

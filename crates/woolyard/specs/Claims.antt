@@ -1,4 +1,4 @@
--- What `woolyard_claims` leaves with its caller: the number and the claim of the one reply, as they are. The lists are only read.
+-- docs/RULES.md, "Claims": what `woolyard_claims` leaves with its caller: the number and the claim of the one reply, as they are. The lists are only read.
 use Prim.Native.Nat.{ℕ}
 use Rattle.claims.specs.Lists.{FiveLists}
 use Rattle.claims.specs.Replies.{Replies}

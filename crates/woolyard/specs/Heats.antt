@@ -1,4 +1,4 @@
--- What `woolyard_heat` leaves with its caller: the number, and the 64 bits of the double where there is one.
+-- docs/RULES.md, "Hydrogen's ideal heat capacity": what `woolyard_heat` leaves with its caller: the number, and the 64 bits of the double where there is one.
 use mathlib.Core.Path.{_≡_}
 use Prim.Native.Nat.{ℕ}
 use lib.Ieee.{Float, binary64, toBits}

@@ -1,4 +1,4 @@
--- What `woolyard_parts_take` and `woolyard_parts_end` leave with their caller. The part itself is only read.
+-- docs/RULES.md, "A sheet in parts": what `woolyard_parts_take` and `woolyard_parts_end` leave with their caller. The part itself is only read.
 use mathlib.Core.Path.{_≡_}
 use mathlib.Core.List.{List, _∷_, []}
 use Prim.Native.Nat.{ℕ}

@@ -1,4 +1,4 @@
--- What `woolyard_report`, `woolyard_report_take` and `woolyard_report_end` leave with their caller. The sheet and the part are only read.
+-- docs/RULES.md, "The report": what `woolyard_report`, `woolyard_report_take` and `woolyard_report_end` leave with their caller. The sheet and the part are only read.
 use mathlib.Core.Path.{_≡_}
 use mathlib.Core.List.{List}
 use Prim.Native.Nat.{ℕ}

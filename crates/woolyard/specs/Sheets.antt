@@ -1,4 +1,4 @@
--- What `woolyard_sheet` and `woolyard_sheet_line` leave with their caller. The sheet itself is only read.
+-- docs/RULES.md, "Sheets": what `woolyard_sheet` and `woolyard_sheet_line` leave with their caller. The sheet itself is only read.
 use mathlib.Core.Path.{_≡_}
 use mathlib.Core.List.{List, _∷_, []}
 use Prim.Native.Nat.{ℕ}

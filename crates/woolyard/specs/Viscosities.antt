@@ -1,4 +1,4 @@
--- What `woolyard_viscosity` leaves with its caller: the number and the factor of the one reply, as they are.
+-- docs/RULES.md, "Excess viscosity": what `woolyard_viscosity` leaves with its caller: the number and the factor of the one reply, as they are.
 use Prim.Native.Nat.{ℕ}
 use Rattle.viscosity.specs.Replies.{Replies}
 

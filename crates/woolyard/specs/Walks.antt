@@ -1,4 +1,4 @@
--- What `woolyard_walk` leaves with its caller: the number, the gas root and the count of the one reply.
+-- docs/RULES.md, "The walk": what `woolyard_walk` leaves with its caller: the number, the gas root and the count of the one reply.
 use mathlib.Core.Path.{_≡_}
 use mathlib.Core.List.{List, _∷_, []}
 use Prim.Native.Nat.{ℕ}

@@ -1,4 +1,4 @@
--- What `woolyard_write_sheet` leaves with its caller: the number and the length of the one reply, and the buffer, as they are. The lists are only read.
+-- docs/RULES.md, "A sheet written": what `woolyard_write_sheet` leaves with its caller: the number and the length of the one reply, and the buffer, as they are. The lists are only read.
 use mathlib.Core.List.{List}
 use Prim.Native.Nat.{ℕ}
 use Rattle.measures.specs.Columns.{Columns}
