@@ -15,7 +15,7 @@ use Rattle.sheets.specs.declared.Next.the-variants as Next
 use Rattle.sheets.specs.Grammar.{allSections, Pair, Good, statesFrom, sumOfCounts}
 use Rattle.sheets.specs.Reading.{start, Comes, Reads}
 use Rattle.sheets.proofs.Walks.{Ends, reads-determined, reads-never-too-long}
-use Rattle.sheets.proofs.Existence.{Whole, whole}
+use Rattle.sheets.proofs.Existence.{whole}
 use Rattle.sheets.proofs.Readable.{good-read}
 use Rattle.sheets.proofs.Written.{Written, read-good}
 use Rattle.readings.specs.declared.Reading.{Reading}
@@ -24,7 +24,7 @@ use Rattle.readings.specs.Figures.{sheetFigures, nextFigures}
 use Rattle.readings.specs.Readers.{mostBytes, TooLong}
 use Rattle.readings.specs.Replies.{NextIs, ReadsAs}
 use Rattle.readings.proofs.Answers.{good-told, long-told, fault-told}
-use Rattle.readings.proofs.Nexts.{CameAs, long-next, told-next, next-came}
+use Rattle.readings.proofs.Nexts.{long-next, told-next, next-came}
 use Rattle.readings.proofs.Theorems.{next-determined, reading-determined}
 use Rattle.laying.proofs.Theorems.{told-alike}
 use Rattle.woolyard.specs.Sheets.{SheetAnswers}
