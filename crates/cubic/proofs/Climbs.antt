@@ -4,14 +4,24 @@ use Prim.Native.Nat.{ℕ, _+_, _-_, _/_, _≤_, _<_}
 use native.Mathlib.Numerals.{add-one}
 use native.Mathlib.Omega.{arith}
 use native.Mathlib.Decide.{decLe}
-use Rattle.cubic.specs.Sides.{plus, minus, rise, bend, NotPositiveTo, ClimbsFrom, ClimbsTo}
-use Rattle.cubic.proofs.Shape.{upwards}
+use Rattle.cubic.specs.Sides.{plus, minus, rise, bend, NotPositiveTo, Crosses, ClimbsFrom, ClimbsTo}
+use Rattle.cubic.proofs.Shape.{plus-grows, minus-grows, upwards}
+use Rattle.cubic.proofs.Lines.{not-positive-to}
 use Rattle.cubic.proofs.Room.{Allows, flat, jump, gentle, steep}
 
 module _ (a b : ℕ) where
   pub not-positive-at : {low : ℕ} → ClimbsFrom a b low → plus a low ≤ minus a b low
   unfolding NotPositiveTo
   not-positive-at {low} begins = begins .not-positive low (omega arith)
+
+  -- a crossing below the bend is where the search from below ends
+  pub ends-at-crossing : {z : ℕ} → z < bend → Crosses a b z → ClimbsTo a b z
+  ends-at-crossing {z} limit crosses =
+      record {
+        not-positive = not-positive-to a b z (omega arith) (omega (arith, plus-grows a z, minus-grows a b z, crosses .not-positive, crosses .then-positive)) (crosses .not-positive);
+        found = λ h. rw add-one (crosses .then-positive);
+        to-bend = omega arith;
+      }
 
 -- A turn of the search from below, by its values: the room is what g has below 0 at `low`, the slope that of the step above `low`.
 pub record Climbing (a b low room slope : ℕ) : Type 0 where

@@ -6,7 +6,7 @@ use native.Mathlib.Numerals.{add-one}
 use native.Mathlib.Omega.{arith}
 use native.Mathlib.Decide.{decLe}
 use Rattle.cubic.specs.Cubic.{N}
-use Rattle.cubic.specs.Sides.{plus, minus, rise, bend, PositiveFrom, Crosses, FallsFrom, Falling, FallsTo}
+use Rattle.cubic.specs.Sides.{plus, minus, plusStep, minusStep, rise, bend, PositiveFrom, Crosses, FallsFrom, Falling, FallsTo}
 use Rattle.cubic.proofs.Shape.{above-grid, plus-grows, minus-grows, downwards}
 use Rattle.cubic.proofs.Lines.{positive-from}
 use Rattle.cubic.proofs.Room.{Allows, jump, gentle, steep}
@@ -42,6 +42,25 @@ module _ (a b : ℕ) where
         found = λ h. crosses .not-positive;
         to-bend = omega arith;
       }
+
+  -- where g is positive at the bend and rises from it, no crossing is left from the bend on
+  pub none-from-bend : {slope : ℕ} → slope ≡ rise a b bend → 0 < slope → minus a b bend < plus a bend → FallsTo a b (bend - 1)
+  unfolding rise PositiveFrom
+  none-from-bend is-slope some positive =
+      record { positive = from-here; found = λ h. omega arith; to-bend = omega arith }
+    where
+      rising : minusStep b bend < plusStep a bend
+      rising = omega arith
+
+      from-here : (y : ℕ) → bend ≤ y → minus a b y < plus a y
+      from-here y above = by-order (decLe (suc bend) y)
+        where
+          by-order : Dec (suc bend ≤ y) → minus a b y < plus a y
+          by-order (yes h) = positive-from a b bend (omega arith) rising (omega (arith, plus-grows a bend, minus-grows a b bend)) y h
+          by-order (no f) = rw (← same) positive
+            where
+              same : bend ≡ y
+              same = omega arith
 
   -- the step below the next place is the one at this place
   pub slope-below : {slope : ℕ} (z : ℕ) → slope ≡ rise a b z → slope ≡ rise a b (z + 1 - 1)

@@ -1,6 +1,7 @@
 -- Where t, p, s, a and b of an accepted state lie. Each fluid gives round ends for its t and p; the rest is the same for all: a quotient
 -- grows with what stands above its bar and falls with what stands below, so a and b are at most what the ends make them. Assumes nothing.
-use Prim.Native.Nat.{ℕ, _+_, _*_, _/_, _≤_, _<_}
+use mathlib.Core.Path.{_≡_}
+use Prim.Native.Nat.{ℕ, _+_, _*_, _/_, _^_, _≤_, _<_}
 use native.Mathlib.Nat.{le-trans, mul-le-mul, mul-le-mul-left, mul-pos, div-mul-le-self, div-le-of-le-mul}
 use native.Mathlib.Omega.{arith}
 use Rattle.fluid.specs.declared.choice.Fluid.{Fluid}
@@ -60,6 +61,17 @@ hydrogen-spans millikelvin pascals accepted =
     let p-to : 1000000 * pascals / pc ≤ 1000000 * highest / 797000 = quotient-grows {y = 1000000 * highest} (omega arith) (pc-from millikelvin cold) (omega arith) in
     let p-from : 1000000 * lowest / 2046765 ≤ 1000000 * pascals / pc = quotient-grows {x = 1000000 * lowest} (omega (arith, pc-from millikelvin cold)) (pc-to millikelvin cold) (omega arith) in
     omega (arith, tc-from millikelvin cold, pc-from millikelvin cold, t-from millikelvin cold)
+
+-- what is asked of hydrogen's before it is divided by: neither is 0, and 32 bits hold the pressure
+pub record Divides (tc pc : ℕ) : Type 0 where
+  pub some-tc : 0 < tc
+  pub some-pc : 0 < pc
+  pub pc-fits : pc < 2 ^ 32
+
+pub hydrogen-divides : (fluid : Fluid) (millikelvin pascals : ℕ) → fluid ≡ Hydrogen → Accepted fluid millikelvin pascals → Divides (criticalMillikelvin Hydrogen millikelvin) (criticalPascals Hydrogen millikelvin)
+hydrogen-divides fluid millikelvin pascals is-hydrogen accepted =
+    let cold = (rw is-hydrogen at accepted) .from-coldest in
+    omega (arith, tc-from millikelvin cold, pc-from millikelvin cold, pc-to millikelvin cold)
 
 -- for every fluid there are such ends
 pub record Spanned (tc pc t p : ℕ) : Type 0 where

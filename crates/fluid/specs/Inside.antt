@@ -1,15 +1,14 @@
--- What the private functions ask and promise: a fluid's figures as one value, and numbers that 64 bits hold. Nothing public is stated by this file.
-use Prim.Native.Nat.{ℕ, _≤_, _<_}
+-- What the private functions ask and promise: t and p as one value, and numbers that 64 bits hold. Nothing public is stated by this file.
+use Prim.Native.Nat.{ℕ, _*_, _/_, _≤_, _<_}
 use Rattle.fluid.specs.declared.choice.Fluid.{Fluid}
-use Rattle.fluid.specs.declared.choice.Figures.{Figures}
-use Rattle.fluid.specs.Figures.{criticalMillikelvin, criticalPascals, coldest, hottest}
+use Rattle.fluid.specs.declared.choice.Ratios.{Ratios}
+use Rattle.fluid.specs.Figures.{criticalMillikelvin, criticalPascals, hottest}
 
-abbrev pub figuresOf : Fluid → (millikelvin : ℕ) → Figures
-figuresOf fluid millikelvin =
+abbrev pub ratiosOf : Fluid → (millikelvin pascals : ℕ) → Ratios
+ratiosOf fluid millikelvin pascals =
     record {
-      «coldest_millikelvin» = coldest fluid;
-      «critical_millikelvin» = criticalMillikelvin fluid millikelvin;
-      «critical_pascals» = criticalPascals fluid millikelvin;
+      t = 10000 * millikelvin / criticalMillikelvin fluid millikelvin;
+      p = 1000000 * pascals / criticalPascals fluid millikelvin;
     }
 
 pub record LoweredFits (hot shift millikelvin : ℕ) : Type 0 where

@@ -3,8 +3,9 @@ ghost use Rattle.fluid.specs.Figures.{numberOf};
 ghost use Rattle.fluid.specs.Promise.{reduction, ReducesTo};
 use crate::choice::Fluid;
 use crate::choice::Numbered;
-use crate::choice::figures_at;
+use crate::choice::coldest_millikelvin;
 use crate::choice::of_number;
+use crate::choice::ratios_of;
 use refusals::Refusal;
 use squares::square_root;
 
@@ -35,17 +36,16 @@ pub enum Reduction {
     Refused(Refusal),
 }
 
-// The temperature is looked at before the pressure; its upper end first, as `figures_at` wants no hotter.
+// The tests are in the order of the refusals' table.
 fn reduce_fluid(fluid: Fluid, millikelvin: u64, pascals: u64) -> Reduction
     ensures { λ r. ⌜ ReducesTo (numberOf fluid) millikelvin pascals (reduction r) ⌝ }
 {
-    if HOTTEST_MILLIKELVIN < millikelvin {
-        return Reduction::Refused(Refusal::TemperatureTooHigh);
-    }
-    let figures = figures_at(fluid, millikelvin);
-    let coldest = figures.coldest_millikelvin;
+    let coldest = coldest_millikelvin(fluid);
     if millikelvin < coldest {
         return Reduction::Refused(Refusal::TemperatureTooLow);
+    }
+    if HOTTEST_MILLIKELVIN < millikelvin {
+        return Reduction::Refused(Refusal::TemperatureTooHigh);
     }
     if pascals < LOWEST_PASCALS {
         return Reduction::Refused(Refusal::PressureTooLow);
@@ -53,8 +53,9 @@ fn reduce_fluid(fluid: Fluid, millikelvin: u64, pascals: u64) -> Reduction
     if HIGHEST_PASCALS < pascals {
         return Reduction::Refused(Refusal::PressureTooHigh);
     }
-    let t = 10_000 * millikelvin / figures.critical_millikelvin;
-    let p = 1_000_000 * pascals / figures.critical_pascals;
+    let ratios = ratios_of(fluid, millikelvin, pascals);
+    let t = ratios.t;
+    let p = ratios.p;
     let s = square_root((10_000 * t) as u32);
     let a = FACTOR_OF_A * p / (t * t * s);
     let b = FACTOR_OF_B * p / (100 * t);

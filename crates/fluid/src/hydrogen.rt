@@ -4,8 +4,7 @@ ghost use mathlib.Core.Path.{_≡_};
 ghost use Prim.Native.Nat.{_≤_};
 ghost use Rattle.fluid.specs.Figures.{criticalMillikelvin, criticalPascals, hottest};
 ghost use Rattle.fluid.specs.Figures.{lowered as Figures·lowered};
-ghost use Rattle.fluid.specs.Inside.{figuresOf, LoweredFits};
-use crate::choice::Figures;
+ghost use Rattle.fluid.specs.Inside.{LoweredFits};
 use crate::choice::Fluid;
 
 pub struct Hydrogen {}
@@ -53,16 +52,5 @@ impl Hydrogen {
         ensures { λ r. ⌜ r ≡ criticalPascals Fluid.Hydrogen millikelvin ⌝ }
     {
         Self::lowered(Self::CRITICAL_PASCALS, Self::PASCALS_SHIFT, millikelvin)
-    }
-
-    pub(crate) fn figures_at(millikelvin: u64) -> Figures
-        requires { ⌜ millikelvin ≤ hottest ⌝ }
-        ensures { λ r. ⌜ r ≡ figuresOf Fluid.Hydrogen millikelvin ⌝ }
-    {
-        Figures {
-            coldest_millikelvin: Self::COLDEST_MILLIKELVIN,
-            critical_millikelvin: Self::critical_millikelvin(millikelvin),
-            critical_pascals: Self::critical_pascals(millikelvin),
-        }
     }
 }

@@ -1,5 +1,4 @@
 // Nitrogen: its constants (docs/RULES.md, "Fluids"; JAXA-RM-13-019, Table 2).
-use crate::choice::Figures;
 
 pub struct Nitrogen {}
 
@@ -12,10 +11,4 @@ impl Nitrogen {
     pub const CRITICAL_MILLIKELVIN: u64 = 126_192;
 
     pub const CRITICAL_PASCALS: u64 = 3_395_800;
-
-    pub(crate) const FIGURES: Figures = Figures {
-        coldest_millikelvin: Self::COLDEST_MILLIKELVIN,
-        critical_millikelvin: Self::CRITICAL_MILLIKELVIN,
-        critical_pascals: Self::CRITICAL_PASCALS,
-    };
 }

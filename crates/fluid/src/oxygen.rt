@@ -1,5 +1,4 @@
 // Oxygen: its constants (docs/RULES.md, "Fluids"; TM-564, Table 1).
-use crate::choice::Figures;
 
 pub struct Oxygen {}
 
@@ -12,10 +11,4 @@ impl Oxygen {
     pub const CRITICAL_MILLIKELVIN: u64 = 154_576;
 
     pub const CRITICAL_PASCALS: u64 = 5_042_000;
-
-    pub(crate) const FIGURES: Figures = Figures {
-        coldest_millikelvin: Self::COLDEST_MILLIKELVIN,
-        critical_millikelvin: Self::CRITICAL_MILLIKELVIN,
-        critical_pascals: Self::CRITICAL_PASCALS,
-    };
 }

@@ -2,5 +2,6 @@
 pub mod Squares
 pub mod Digits
 pub mod Pairs
+pub mod Paper
 pub mod Worked
 pub mod Theorems

@@ -1,5 +1,4 @@
 -- What the private functions ask and promise. Nothing public is stated by this file.
-use mathlib.Core.Path.{_≡_}
 use Prim.Native.Nat.{ℕ, _+_, _*_, _/_, _^_, _≤_, _<_}
 use Rattle.squares.specs.SquareRoot.{SquareRoot}
 
@@ -10,11 +9,10 @@ allPairs = 5
 abbrev pub largestRoot : ℕ
 largestRoot = 65535
 
--- where so many pairs of n are left, root is the square root of the number that those taken make, and rest what that has more than its square
-pub record AfterPairs (n pairs-left root rest : ℕ) : Type 0 where
+-- where so many pairs of n are left, root is the square root of the number that those taken make
+pub record AfterPairs (n pairs-left root : ℕ) : Type 0 where
   pub of-all : pairs-left ≤ allPairs
   pub is-root : SquareRoot (n / 100 ^ pairs-left) root
-  pub is-rest : root * root + rest ≡ n / 100 ^ pairs-left
 
 -- by how much the square of 10 root + digit is larger than that of 10 root
 abbrev pub product : ℕ → ℕ → ℕ

@@ -21,8 +21,17 @@ returns-2 c = λ inside. omega arith
 add-last : tie.Need-add-last
 add-last c = omega arith
 
+two-steps-requires : tie.Need-two-steps-requires
+two-steps-requires c κs = omega arith
+
 returns-3 : tie.Need-returns-3
 returns-3 c = λ inside. omega arith
+
+returns-4 : tie.Need-returns-4
+returns-4 c = λ inside. omega arith
+
+returns-5 : tie.Need-returns-5
+returns-5 c = λ inside. omega arith
 
 add-first-order : tie.Need-add-first-order
 add-first-order c = omega arith
@@ -39,8 +48,8 @@ sub-less c = omega arith
 mul-less-2 : tie.Need-mul-less-2
 mul-less-2 c = omega (arith, mul-le-mul (within (c .before) .a-fits) (sub-le N (3 * c .before .before .before .args .b)))
 
-returns-4 : tie.Need-returns-4
-returns-4 c = λ inside. omega arith
+returns-6 : tie.Need-returns-6
+returns-6 c = λ inside. omega arith
 
 sub-second-order : tie.Need-sub-second-order
 sub-second-order c = omega arith
@@ -60,18 +69,18 @@ sub-fallen c = omega arith
 div-fallen : tie.Need-div-fallen
 div-fallen c = omega arith
 
-sub-if5 : tie.Need-sub-if5
-sub-if5 c = omega arith
+sub-if7 : tie.Need-sub-if7
+sub-if7 c = omega arith
 
 sub-result : tie.Need-sub-result
 sub-result c = omega arith
 
-returns-5 : tie.Need-returns-5
-returns-5 c = λ inside. omega arith
+returns-7 : tie.Need-returns-7
+returns-7 c = λ inside. omega arith
 
-returns-6 : tie.Need-returns-6
-returns-6 c = λ inside. omega arith
+returns-8 : tie.Need-returns-8
+returns-8 c = λ inside. omega arith
 
 pub nearer-spec : {M : Type 1} → statement M
 nearer-spec =
-    tie.close (tie.spec returns returns-2 add-last returns-3 add-first-order mul-first-order mul-less sub-less mul-less-2 returns-4 sub-second-order mul-fallen mul-fallen-2 add-fallen sub-fallen div-fallen sub-if5 sub-result returns-5 returns-6)
+    tie.close (tie.spec returns returns-2 add-last two-steps-requires returns-3 returns-4 returns-5 add-first-order mul-first-order mul-less sub-less mul-less-2 returns-6 sub-second-order mul-fallen mul-fallen-2 add-fallen sub-fallen div-fallen sub-if7 sub-result returns-7 returns-8)

@@ -1,5 +1,6 @@
 -- The proof of the cycle of calls {take_pairs}: the measure is the number of pairs left, and what the call with one less promises of n is what
 -- is owed. Assumes nothing.
+use mathlib.Core.Path.{sym}
 use Prim.Native.Nat.{ℕ, _<_}
 use native.Mathlib.Nat.{sub-add-cancel}
 use native.Mathlib.Omega.{arith}
@@ -14,7 +15,7 @@ use Rattle.squares.proofs.+take_pairs.{statement}
 use Rattle.squares.proofs.+take_pairs.Tie.{close}
 
 abbrev pairs-left : Measures 0 kinds.ps ℕ
-pairs-left κs arguments = arguments .1 .1 .1 .0
+pairs-left κs arguments = arguments .1 .1 .0
 
 -- what `take_pairs` is given where t pairs are left, and what a call of it asks
 module _ (t : ℕ) where
@@ -31,7 +32,7 @@ module _ (t : ℕ) where
   sub-one-less c = omega arith
 
   take-pair-requires : lts.Need-take-pair-requires claims given take-pairs.Post
-  take-pair-requires c κs = rw (sub-add-cancel (sub-one-less c)) (c .before .pre .1)
+  take-pair-requires c κs = rw (sym (sub-add-cancel (sub-one-less c))) at (c .before .pre .1)
 
   take-pairs-requires : lts.Need-take-pairs-requires claims given take-pairs.Post
   take-pairs-requires c κs = (omega (arith, c .before .before .pre .0, sub-one-less (c .before)), c .take-pair .ensures)

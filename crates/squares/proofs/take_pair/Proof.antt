@@ -1,47 +1,41 @@
--- `squares::take_pair` meets its contract: the next digit is right for the pair brought down. Assumes nothing.
-use Prim.Native.Nat.{_+_, _*_, _≤_}
+-- `squares::take_pair` meets its contract: the next digit is right for what is left. Assumes nothing.
+use Prim.Native.Nat.{_-_, _*_, _≤_}
 use native.Mathlib.Omega.{arith}
 use borrow.Author.Needs.{needs}
 use Rattle.squares.specs.Inside.{ForOneDigit}
 use Rattle.squares.proofs.Digits.{is-digit}
-use Rattle.squares.proofs.Pairs.{for-one-digit, after-pair}
+use Rattle.squares.proofs.Pairs.{tens-fit, for-one-digit, after-pair}
 use Rattle.squares.proofs.take_pair.Statement.{statement}
 use Rattle.squares.proofs.take_pair.Tie as tie
 
-brought : (c : tie.After-pair-before) → ForOneDigit (c .before .args .root) (100 * c .before .args .rest + c .pair-before .result)
-brought c = rw (c .pair-before .ensures) (for-one-digit _ _ _ _ (c .before .pre) (omega arith))
+asked : (c : tie.After-front) → ForOneDigit (c .before .args .root) (c .front .result - (10 * c .before .args .root) * (10 * c .before .args .root))
+asked c = rw (c .front .ensures) (for-one-digit _ _ _ (c .before .pre) (omega arith))
 
-digit : (c : tie.After-next-digit) → c .next-digit .result ≤ 9
-digit c = is-digit (brought (c .before)) (c .next-digit .ensures)
+tens : (c : tie.After-front) → (10 * c .before .args .root) * (10 * c .before .args .root) ≤ c .front .result
+tens c = rw (c .front .ensures) (tens-fit _ _ _ (c .before .pre))
 
 returns : tie.Need-returns
 returns c =
-    let pair = c .before .before .pair-before .ensures in
-    rw (c .product .ensures) (rw pair (after-pair _ _ _ _ (c .before .before .before .pre) (rw pair at (c .before .next-digit .ensures))))
+    let is-front = c .before .front .ensures in
+    after-pair _ _ _ (c .before .before .pre) (rw is-front at (c .next-digit .ensures))
+
+mul-tens : tie.Need-mul-tens
+mul-tens c = omega (arith, for-one-digit _ _ _ (c .pre) (omega arith))
+
+front-requires : tie.Need-front-requires
+front-requires c κs = search needs
 
 mul-left : tie.Need-mul-left
-mul-left c = omega (arith, for-one-digit _ _ _ _ (c .pre) (omega arith))
+mul-left c = omega (arith, tens c)
 
-pair-before-requires : tie.Need-pair-before-requires
-pair-before-requires c κs = search needs
-
-add-left : tie.Need-add-left
-add-left c = omega (arith, brought c)
+sub-left : tie.Need-sub-left
+sub-left c = tens c
 
 next-digit-requires : tie.Need-next-digit-requires
-next-digit-requires c κs = brought c
+next-digit-requires c κs = asked c
 
-mul-t7 : tie.Need-mul-t7
-mul-t7 c = omega (arith, brought (c .before))
-
-add-t8 : tie.Need-add-t8
-add-t8 c = omega (arith, brought (c .before), digit c)
-
-product-requires : tie.Need-product-requires
-product-requires c κs = (brought (c .before) .root-to, digit c)
-
-sub-t10 : tie.Need-sub-t10
-sub-t10 c = search needs
+add-result : tie.Need-add-result
+add-result c = omega (arith, asked (c .before) .root-to, is-digit (asked (c .before)) (c .next-digit .ensures))
 
 pub take-pair-spec : {M : Type 1} → statement M
-take-pair-spec = tie.close (tie.spec mul-left pair-before-requires add-left next-digit-requires mul-t7 add-t8 product-requires sub-t10 returns)
+take-pair-spec = tie.close (tie.spec mul-tens front-requires mul-left sub-left next-digit-requires add-result returns)

@@ -5,7 +5,7 @@
 //! machine does nor a place in the order favours one of them. A state that one of them refuses is asked of
 //! none: a build from before a fluid came refuses it at once, and would look quicker for that.
 
-use crate::rounds::{pass, timing, Timing, ROUNDS, WARM_UP_ROUNDS};
+use crate::rounds::{more_than, pass, timing, Timing, ROUNDS, WARM_UP_ROUNDS};
 use second::random::Random;
 use second::sheet::State;
 use std::ffi::{c_char, c_int, c_void, CStr, CString};
@@ -49,11 +49,7 @@ pub fn measure(builds: &[String], states: &[State], random: &mut Random) {
     );
     println!("and the median of what a round takes more than the first build's");
     for (build, of_build) in builds.iter().zip(&rounds) {
-        let more = of_build
-            .iter()
-            .zip(&rounds[0])
-            .map(|(this, first)| this - first);
-        let more = timing(more.collect()).median;
+        let more = more_than(of_build, &rounds[0]);
         let Timing { median, quickest } = timing(of_build.clone());
         println!("{build}: {median:.1}, {quickest:.1}, {more:+.2}");
     }

@@ -9,8 +9,8 @@ use std::hint::black_box;
 use woolyard::boundary::{FIGURES, SIDE_FIGURES};
 use woolyard::{Kind, Side, BOOK_BYTES};
 
-/// The slot that every start is written into, just before the call.
-const SLOT: usize = 17;
+/// The slot that every call with a book names.
+pub const SLOT: usize = 17;
 
 /// What a slot holds, as its bytes.
 type Start = [u8; SLOT_BYTES];
@@ -32,7 +32,7 @@ impl Starts {
         let strangers: Vec<Start> = own.iter().map(|_| any()).collect();
         let zeros = vec![[0; SLOT_BYTES]; own.len()];
         for starts in [&own, &strangers, &zeros] {
-            assert_unchanged(states, starts, &own);
+            assert_starts(states, starts, &own);
         }
         Starts {
             own,
@@ -55,16 +55,21 @@ fn slot_of(book: &mut [u8; BOOK_BYTES]) -> &mut Start {
     bytes.first_chunk_mut().expect("a slot of the book")
 }
 
-fn assert_unchanged(states: &[State], starts: &[Start], gas_roots: &[Start]) {
+fn assert_starts(states: &[State], starts: &[Start], gas_roots: &[Start]) {
     let mut book = [0; BOOK_BYTES];
-    let [mut without, mut with] = [[0; FIGURES]; 2];
     for ((state, start), gas_root) in states.iter().zip(starts).zip(gas_roots) {
         *slot_of(&mut book) = *start;
-        let number = proved::state(state, &mut without);
-        let number_with_book = proved::state_with_book(state, SLOT, &mut book, &mut with);
-        assert_eq!((number_with_book, with), (number, without), "{state:?}");
+        assert_unchanged(state, &mut book);
         assert_eq!(slot_of(&mut book), gas_root, "{state:?}");
     }
+}
+
+/// That the call with the book answers what the call without does.
+pub fn assert_unchanged(state: &State, book: &mut [u8; BOOK_BYTES]) {
+    let [mut without, mut with] = [[0; FIGURES]; 2];
+    let number = proved::state(state, &mut without);
+    let number_with_book = proved::state_with_book(state, SLOT, book, &mut with);
+    assert_eq!((number_with_book, with), (number, without), "{state:?}");
 }
 
 /// That each side alone is answered as in the whole call.

@@ -1,14 +1,17 @@
 //! The words around the figures in docs/BENCHMARK.md: on what machine, on which states, and how.
 
+use crate::neighbours::{first_millikelvin, PASCALS, STATES, STEP_MILLIKELVIN};
 use crate::next_lines::{NextLines, ROUNDS_BY_NUMBER};
 use crate::peer;
-use crate::report::{grouped, percent, write_parts, write_reports, Bar, Report};
+use crate::processor::{self, Processor, DIVISIONS, QUICK_BELOW};
+use crate::report::{
+    grouped, percent, write_parts, write_reports, Bar, Report, MOST_WHERE_QUICK, MOST_WHERE_SLOW,
+};
 use crate::rounds::{ROUNDS, WARM_UP_ROUNDS};
 use second::cubic::N;
 use second::sheet::LARGEST_COUNT;
 use second::state::{Fluid, FLUIDS, HIGHEST_PRESSURE, HOTTEST, LOWEST_PRESSURE};
 use std::fmt::{Display, Formatter, Result};
-use std::fs;
 
 impl Display for Report {
     fn fmt(&self, out: &mut Formatter) -> Result {
@@ -18,10 +21,17 @@ impl Display for Report {
         writeln!(out, "\n## The states\n")?;
         self.write_states(out)?;
         writeln!(out, "\n## Nanoseconds per state\n")?;
+        self.write_processor(out)?;
         self.write_times(out)?;
         writeln!(out, "\n## Ratios and bars\n")?;
         self.write_bars(out)?;
         write_about_bars(out)?;
+        writeln!(out, "\n## One fluid alone\n")?;
+        write_about_streams(out)?;
+        self.write_streams(out)?;
+        writeln!(out, "\n## States one after another\n")?;
+        self.write_about_neighbours(out)?;
+        self.write_neighbours(out)?;
         writeln!(out, "\n## The walk\n")?;
         self.write_about_walks(out)?;
         self.write_walks(out)?;
@@ -54,7 +64,7 @@ impl Display for Report {
 
 impl Report {
     fn write_head(&self, out: &mut Formatter) -> Result {
-        let (model, version) = (machine(), peer::version());
+        let (model, version) = (processor::name(), peer::version());
         let [call, in_doubles] = [self.timings.call.median, self.timings.peer.median];
         let bars = self.bars();
         let (met, all) = (bars.iter().filter(|bar| Bar::met(bar)).count(), bars.len());
@@ -76,7 +86,7 @@ doubles, with the cubic solver of the GNU Scientific Library (GSL).
     }
 
     fn write_method(&self, out: &mut Formatter) -> Result {
-        let (rounds, scanned) = (grouped(ROUNDS), self.scanned);
+        let (rounds, scanned, divisions) = (grouped(ROUNDS), self.scanned, grouped(DIVISIONS));
         write!(
             out,
             "\
@@ -93,6 +103,33 @@ doubles, with the cubic solver of the GNU Scientific Library (GSL).
   every call for a side what the whole call answers of it.
 - The plain scan is the second implementation's, which looks at every place of the grid. It answers
   {scanned} of the states once, and the proved call is checked to answer the same.
+- The kind of processor is told by divisions, {divisions} in each of {rounds} rounds of their own. Each numerator is a constant
+  plus the quotient before, so that each division waits for that one. The same additions without the divisions are timed
+  in the same rounds, and the median of what a round takes more with them is given. The 64-bit numbers are as long as
+  those that a call finds a from can be, 61 bits by 41; those in doubles are the same.
+"
+        )
+    }
+
+    fn write_processor(&self, out: &mut Formatter) -> Result {
+        let Processor {
+            of_64_bits,
+            of_32_bits,
+            in_doubles,
+        } = self.processor;
+        let ratio = self.processor.beside_doubles();
+        let kind = if self.processor.is_quick() {
+            "quick"
+        } else {
+            "slow"
+        };
+        write!(
+            out,
+            "\
+**The processor is a {kind} one:** a 64-bit division takes {ratio:.2} times as long as one in doubles, and less than {QUICK_BELOW}
+counts as quick. A division that waits for the one before it takes {of_64_bits:.2} ns in 64-bit whole numbers, {of_32_bits:.2} ns in 32-bit
+ones and {in_doubles:.2} ns in doubles.
+
 "
         )
     }
@@ -118,6 +155,28 @@ the dense root differ.
   {coldest}, each to {hottest} mK. In the others
   it is at most three times the coldest, {three_times} mK: nearly all SPLIT states lie below the
   critical temperature, which is under that.
+"
+        )
+    }
+
+    fn write_about_neighbours(&self, out: &mut Formatter) -> Result {
+        let [states, pascals] = [STATES, PASCALS as usize].map(grouped);
+        let first = of_fluids("and", |fluid| {
+            let millikelvin = grouped(first_millikelvin(&fluid) as usize);
+            format!("{} from {millikelvin}", fluid.name)
+        });
+        let split = listed("and", self.neighbours.split.map(grouped));
+        write!(
+            out,
+            "\
+Nanoseconds per state of {states} states of each fluid at {pascals} Pa, asked one after another, each {STEP_MILLIKELVIN} mK above the one
+before: {first} mK. {split} of them are SPLIT. The
+calls with a book all name one slot: before the first it holds zeros, and before each other the gas root of the state
+before, as the call for that left it. All are timed in rounds of their own; each call and the job in doubles are compared
+round by round, and the median of the ratios is given; no bar is set. The states are few and come in the same order in
+every round, so that the processor may remember how its branches went. Before the clock runs, every call with the book
+is checked to answer what the call without one does.
+
 "
         )
     }
@@ -298,14 +357,32 @@ a is 0 the root itself is a whole number, and a double that falls short of it ha
 
 /// What is said of each fluid, with commas between, and this word before the last.
 fn of_fluids(before_last: &str, said: fn(Fluid) -> String) -> String {
-    let [others @ .., last] = FLUIDS.map(said);
+    listed(before_last, FLUIDS.map(said))
+}
+
+fn listed(before_last: &str, said: [String; FLUIDS.len()]) -> String {
+    let [others @ .., last] = said;
     format!("{} {before_last} {last}", others.join(", "))
+}
+
+fn write_about_streams(out: &mut Formatter) -> Result {
+    write!(
+        out,
+        "\
+Nanoseconds per state where all are of one fluid, as in a section of a sheet: those of the states above that are of it, in
+their order. They are timed in rounds of their own, with all states again in the same rounds. The proved call and the job
+in doubles are compared round by round, and the median of the ratios is given; no bar is set.
+
+"
+    )
 }
 
 fn write_about_bars(out: &mut Formatter) -> Result {
     write!(
         out,
         "
+A proved call may take {MOST_WHERE_QUICK} of the job in doubles on a quick processor and {MOST_WHERE_SLOW} on a slow one; the aim is 0.9 on both.
+
 A call for one side has less to work out than the whole call, by a density where there are two, so it may
 not take longer. As that is little, the two are compared round by round, and the median of the ratios is
 judged; so are a sheet that is written, walked over or comes in one part and the same one read, and a report on a
@@ -338,16 +415,4 @@ Both read one full sheet of {count} states for each fluid. These are means of ru
 the same, byte for byte. A kernel that samples by ticks may count a short run's system time as user time.
 "
     )
-}
-
-/// The processor's model, as the kernel names it.
-fn machine() -> String {
-    let text = fs::read_to_string("/proc/cpuinfo").unwrap_or_default();
-    let model = text
-        .lines()
-        .find_map(|line| line.strip_prefix("model name"));
-    match model {
-        Some(rest) => rest.trim_start_matches([' ', '\t', ':']).to_string(),
-        None => "a processor without a name".to_string(),
-    }
 }

@@ -10,27 +10,33 @@ mod claims;
 mod contenders;
 mod document;
 mod floors;
+mod neighbours;
 mod next_lines;
 mod parts;
 mod peer;
+mod processor;
 mod programs;
 mod proved;
 mod report;
 mod rounds;
 mod sheet_reports;
 mod states;
+mod streams;
 mod walks;
 mod writing;
 
 use bands::Bands;
 use claims::Claims;
 use contenders::{Starts, Timings};
+use neighbours::Neighbours;
 use next_lines::NextLines;
 use parts::InParts;
+use processor::Processor;
 use report::Report;
 use second::random::Random;
 use sheet_reports::SheetReports;
 use std::process::ExitCode;
+use streams::Streams;
 use walks::Walks;
 use writing::Writing;
 
@@ -59,7 +65,10 @@ fn main() -> ExitCode {
         split: contenders::split(&timed),
         scanned: scanned.len(),
         counted: counted.len(),
+        processor: Processor::measure(),
         timings: Timings::measure(&timed, &starts),
+        streams: Streams::measure(&timed),
+        neighbours: Neighbours::measure(),
         walks: Walks::measure(&scanned),
         bands: Bands::measure(&timed, &scanned),
         claims: Claims::measure(&timed),

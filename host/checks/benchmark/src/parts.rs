@@ -3,6 +3,7 @@
 use crate::contenders::calls;
 use crate::proved;
 use crate::rounds::{at_once, compared, Compared, Pass};
+use crate::states::of_fluid;
 use crate::writing::{reads, wide_states};
 use second::sheet::State;
 use second::state::FLUIDS;
@@ -53,11 +54,9 @@ impl OfSheet {
 
 /// As many of each fluid as a section may have.
 pub fn full_sections(states: &[State]) -> Vec<State> {
-    let sections = FLUIDS.iter().flat_map(|fluid| {
-        let own = states.iter().filter(|state| state.fluid == fluid.number);
-        own.take(SECTION_MOST_STATES)
-    });
-    sections.copied().collect()
+    let fluids = FLUIDS.iter();
+    let sections = fluids.flat_map(|fluid| of_fluid(states, fluid).take(SECTION_MOST_STATES));
+    sections.collect()
 }
 
 /// The states in the order of their lines.

@@ -4,11 +4,14 @@ use crate::bands::Bands;
 use crate::claims::Claims;
 use crate::contenders::Timings;
 use crate::floors::{with_a_zero, Difference};
+use crate::neighbours::Neighbours;
 use crate::next_lines::NextLines;
 use crate::parts::{InParts, OfSheet, SIZES};
+use crate::processor::Processor;
 use crate::programs::{UserTimes, PROVED_RUNS, SECOND_RUNS};
 use crate::rounds::{Compared, Timing};
 use crate::sheet_reports::{OnSheet, SheetReports, PART_SIZES};
+use crate::streams::Streams;
 use crate::walks::Walks;
 use crate::writing::Writing;
 use second::state::FLUIDS;
@@ -20,7 +23,10 @@ pub struct Report {
     pub split: usize,
     pub scanned: usize,
     pub counted: usize,
+    pub processor: Processor,
     pub timings: Timings,
+    pub streams: Streams,
+    pub neighbours: Neighbours,
     pub walks: Walks,
     pub bands: Bands,
     pub claims: Claims,
@@ -33,6 +39,10 @@ pub struct Report {
     pub solver: Vec<Difference>,
     pub peer: Vec<Difference>,
 }
+
+/// The most that a proved call may take beside the job in doubles, by the kind of processor.
+pub const MOST_WHERE_QUICK: f64 = 1.1;
+pub const MOST_WHERE_SLOW: f64 = 1.25;
 
 /// A measured ratio, and the most it may be.
 pub struct Bar {
@@ -58,13 +68,18 @@ impl Report {
             ratio: above / below,
             most,
         };
+        let (beside_doubles, most) = if self.processor.is_quick() {
+            ("proved call / GSL, on a quick processor", MOST_WHERE_QUICK)
+        } else {
+            ("proved call / GSL, on a slow processor", MOST_WHERE_SLOW)
+        };
         let times = &self.timings;
         let [call, zeros] = [times.call.median, times.zeros.median];
         let bands = &self.bands;
         let without_densities = bands.without_densities.median;
         let UserTimes { proved, second } = self.programs;
         [
-            bar("proved call / GSL", call, times.peer.median, 1.0),
+            bar(beside_doubles, call, times.peer.median, most),
             bar(
                 "gas side alone / proved call",
                 times.gas_beside_call,
@@ -162,6 +177,28 @@ impl Report {
         }
         let scan = grouped(self.scan.round() as usize);
         writeln!(out, "| the plain scan, in one pass | {scan} | |")
+    }
+
+    pub fn write_streams(&self, out: &mut Formatter) -> Result {
+        let Streams { of_fluids, mixed } = &self.streams;
+        let fluids = FLUIDS.iter().zip(of_fluids);
+        let alone = fluids.map(|(fluid, compared)| (format!("{} alone", fluid.name), compared));
+        let mixed = ("all fluids mixed".to_string(), mixed);
+        write_beside_doubles(out, alone.chain([mixed]))
+    }
+
+    pub fn write_neighbours(&self, out: &mut Formatter) -> Result {
+        let fluids = FLUIDS.iter().zip(&self.neighbours.of_fluids);
+        let rows = fluids.flat_map(|(fluid, calls)| {
+            [
+                (
+                    format!("{}, without a book", fluid.name),
+                    &calls.without_book,
+                ),
+                (format!("{}, with a book", fluid.name), &calls.with_book),
+            ]
+        });
+        write_beside_doubles(out, rows)
     }
 
     pub fn write_walks(&self, out: &mut Formatter) -> Result {
@@ -305,7 +342,8 @@ impl Report {
         for bar in self.bars() {
             let verdict = if bar.met() { "met" } else { "MISSED" };
             let Bar { of, ratio, most } = bar;
-            writeln!(out, "| {of} | {ratio:.4} | {most:.1} | {verdict} |")?;
+            // As many digits as the bar has, and one behind the point at least.
+            writeln!(out, "| {of} | {ratio:.4} | {most:?} | {verdict} |")?;
         }
         Ok(())
     }
@@ -334,6 +372,29 @@ impl Report {
         }
         Ok(())
     }
+}
+
+/// Proved calls, each beside the job in doubles on the same states.
+fn write_beside_doubles<'a>(
+    out: &mut Formatter,
+    rows: impl Iterator<Item = (String, &'a Compared)>,
+) -> Result {
+    writeln!(
+        out,
+        "| proved call | median round | quickest round | job in doubles, median round | its quickest round | beside that job |"
+    )?;
+    writeln!(out, "|---|---:|---:|---:|---:|---:|")?;
+    for (what, compared) in rows {
+        let Compared {
+            timed,
+            other,
+            ratio,
+        } = compared;
+        let times = [timed, other]
+            .map(|Timing { median, quickest }| format!("{median:.1} | {quickest:.1}"));
+        writeln!(out, "| {what} | {} | {ratio:.3} |", times.join(" | "))?;
+    }
+    Ok(())
 }
 
 /// A sheet in parts, beside what is done with the whole. That has a row as it was beside one part, and for each size its

@@ -22,11 +22,20 @@ pub struct Timing {
 
 /// The rounds of each contender, in their order: nanoseconds per state.
 pub fn interleaved<const CONTENDERS: usize>(
-    mut contenders: [Pass; CONTENDERS],
+    contenders: [Pass; CONTENDERS],
 ) -> [Vec<f64>; CONTENDERS] {
-    let mut passes = [const { Vec::new() }; CONTENDERS];
+    let [passes] = interleaved_groups([contenders]);
+    passes
+}
+
+/// The same of several groups, in rounds of them all.
+pub fn interleaved_groups<const CONTENDERS: usize, const GROUPS: usize>(
+    mut groups: [[Pass; CONTENDERS]; GROUPS],
+) -> [[Vec<f64>; CONTENDERS]; GROUPS] {
+    let mut passes = [const { [const { Vec::new() }; CONTENDERS] }; GROUPS];
     for round in 0..WARM_UP_ROUNDS + ROUNDS {
-        for (contender, passes) in contenders.iter_mut().zip(&mut passes) {
+        let contenders = groups.as_flattened_mut().iter_mut();
+        for (contender, passes) in contenders.zip(passes.as_flattened_mut()) {
             let nanoseconds = contender();
             if round >= WARM_UP_ROUNDS {
                 passes.push(nanoseconds);
@@ -50,6 +59,12 @@ pub fn beside(rounds: &[f64], other: &[f64]) -> f64 {
     timing(ratios.collect()).median
 }
 
+/// The median of what a round takes more than the other contender's.
+pub fn more_than(rounds: &[f64], other: &[f64]) -> f64 {
+    let more = rounds.iter().zip(other).map(|(this, other)| this - other);
+    timing(more.collect()).median
+}
+
 /// Nanoseconds of a contender and of another that it is timed beside, and the ratio of the two, round by round.
 pub struct Compared {
     pub timed: Timing,
@@ -57,14 +72,20 @@ pub struct Compared {
     pub ratio: f64,
 }
 
+impl Compared {
+    pub fn new(timed: Vec<f64>, other: Vec<f64>) -> Compared {
+        Compared {
+            ratio: beside(&timed, &other),
+            timed: timing(timed),
+            other: timing(other),
+        }
+    }
+}
+
 /// In rounds of the two alone.
 pub fn compared(timed: Pass, other: Pass) -> Compared {
     let [other, timed] = interleaved([other, timed]);
-    Compared {
-        ratio: beside(&timed, &other),
-        timed: timing(timed),
-        other: timing(other),
-    }
+    Compared::new(timed, other)
 }
 
 /// Nanoseconds per state of one call each. The compiler may not look through the state.

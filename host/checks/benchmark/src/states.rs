@@ -9,6 +9,12 @@ pub fn spread(count: usize, random: &mut Random) -> Vec<State> {
     (0..count).map(|_| accepted(random)).collect()
 }
 
+/// Those of one fluid, as a sheet's section has them.
+pub fn of_fluid<'a>(states: &'a [State], fluid: &'a Fluid) -> impl Iterator<Item = State> + 'a {
+    let states = states.iter().copied();
+    states.filter(|state| state.fluid == fluid.number)
+}
+
 /// The pressure is log-uniform. The temperature is uniform, in one half of the states over the whole
 /// range and in the other up to three times the coldest: that is not far above the critical
 /// temperature of any fluid, so that SPLIT states, which nearly all lie below, are no rarity.

@@ -50,7 +50,7 @@ fn rows() -> Vec<Vec<&'static str>> {
 fn every_equation_holds() {
     let set_apart = PAGE.lines().filter(|line| line.starts_with("    "));
     let of_figures: Vec<&str> = set_apart.filter(|line| !line.contains('r')).collect();
-    assert_eq!(of_figures.len(), 22);
+    assert_eq!(of_figures.len(), 26);
     of_figures.into_iter().for_each(holds);
 }
 
@@ -61,6 +61,8 @@ fn every_row_follows_from_the_one_before() {
         let [pair, left, digit] = [row[0], row[1], row[2]].map(number);
         let product = |digit| (20 * root + digit) * digit;
         assert_eq!(left, 100 * rest + pair);
+        let tens = 10 * root;
+        assert_eq!(left, 100 * taken + pair - tens * tens);
         assert!(product(digit) <= left && left < product(digit + 1));
         assert_eq!(
             row[3],
@@ -83,7 +85,7 @@ fn the_code_and_the_theorems_have_the_same_rows() {
     for (row, pairs_left) in rows().iter().zip((0..5).rev()) {
         let line = words(&format!("// {}", row.join(" ")));
         assert!(comment.contains(&line), "{line:?}");
-        let theorem = format!("AfterPairs n {pairs_left} {} {}\n", row[5], row[4]);
+        let theorem = format!("OnPaper n {pairs_left} {} {}\n", row[5], row[4]);
         assert!(THEOREMS.contains(&theorem), "{theorem}");
     }
 }
