@@ -16,7 +16,7 @@ pub enum Solution {
 }
 
 // The two roots of the cubic with the coefficients a and b, in hundred-thousandths. `start` is any
-// number at all: it may shorten the search from above and changes no answer.
+// number at all: it may shorten a search and changes no answer.
 //
 // From the bend on there is at most one crossing, which the search from above finds, and below it at most
 // one, which the search from below finds. Each tells by its side of the bend whether it found one. The second
@@ -37,7 +37,7 @@ pub fn solve(a: u64, b: u64, start: u64) -> Solution
             dense: high,
         };
     }
-    let low = dense_crossing(a, b);
+    let low = dense_crossing(a, b, start);
     if high < BEND {
         return Solution::Roots {
             gas: low,

@@ -10,6 +10,7 @@ use crate::newton::climb;
 use crate::newton::fall;
 use crate::sides::BELOW_BEND;
 use crate::starts::crosses;
+use crate::starts::on_dense_side;
 use crate::starts::on_gas_side;
 use crate::starts::positive_from_bend;
 use cubic::LARGEST_A;
@@ -38,9 +39,10 @@ pub fn gas_crossing(a: u64, b: u64, start: u64) -> u64
     fall(a, b)
 }
 
-// The crossing below the bend, the bend if there is none, and 0 where a or b is out of bounds. A guess that is
-// that crossing spares the search, and any other is forgotten.
-pub fn dense_crossing(a: u64, b: u64) -> u64
+// The crossing below the bend, the bend if there is none, and 0 where a or b is out of bounds. A start that is that
+// crossing, as where a state without a gas root from the bend on is asked again, or else a guess that is it spares the
+// search, and any other is forgotten.
+pub fn dense_crossing(a: u64, b: u64, start: u64) -> u64
     ensures { λ r. ⌜ Ends ClimbsTo a b r ⌝ }
 {
     if LARGEST_A < a {
@@ -48,6 +50,11 @@ pub fn dense_crossing(a: u64, b: u64) -> u64
     }
     if LARGEST_B < b {
         return 0;
+    }
+    if on_dense_side(b, start) {
+        if crosses(a, b, start) {
+            return start;
+        }
     }
     let tried = nearer_dense(a, b);
     if crosses(a, b, tried) {

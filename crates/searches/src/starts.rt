@@ -22,6 +22,16 @@ pub(crate) fn on_gas_side(b: u64, start: u64) -> bool
     start <= GRID + b
 }
 
+// Whether it lies where a dense root below the bend can. No root lies below b.
+pub(crate) fn on_dense_side(b: u64, start: u64) -> bool
+    ensures { λ r. ⌜ (r ≡ true → start < bend) ⌝ }
+{
+    if start < b {
+        return false;
+    }
+    start < BEND
+}
+
 // Whether z is a crossing. From the bend on there is at most one, and below it at most one, so it is then the one
 // that a search on its side would end at.
 pub(crate) fn crosses(a: u64, b: u64, z: u64) -> bool
