@@ -53,12 +53,6 @@ pub fn nearer(a: u64, b: u64) -> u64
 pub fn nearer_dense(a: u64, b: u64) -> u64
     ensures { λ r. ⌜ r < bend ⌝ }
 {
-    if LARGEST_A < a {
-        return 0;
-    }
-    if LARGEST_B < b {
-        return 0;
-    }
     let guess = two_steps(a, b, b);
     if BEND <= guess {
         return 0;

@@ -1,20 +1,17 @@
 // Roots guessed in doubles, where no number is too large. The number of steps is fixed, so that there is no branch
 // which a processor could foretell wrong.
-ghost use Prim.Native.Nat.{_^_, _≤_, _<_};
-ghost use Rattle.cubic.specs.Promise.{Within};
-ghost use Rattle.cubic.specs.Sides.{farthest};
+ghost use Prim.Native.Nat.{_^_, _<_};
 use doubles::whole_part;
+use std::num::nearest_u64_to_f64;
 
-// So many places, as a part of the grid. A number with a sign is what a processor makes a double of at once.
-fn of_grid(places: u64) -> f64
-    requires { ⌜ places < 2 ^ 31 ⌝ }
-{
-    (places as i32) as f64 * 0.00001
+// So many places, as a part of the grid.
+fn of_grid(places: u64) -> f64 {
+    nearest_u64_to_f64(places) * 0.00001
 }
 
-// A step from z towards a root of g, all in parts of the grid. With d = g'(z) and h = g''(z) / 2 it is Householder's of
-// the third order, g (d d - g h) / (d (d d - 2 g h) + g g), as g''' is 6: an error of one digit is then one of
-// four digits.
+// A step from z towards a root of g, all in parts of the grid. With d = g'(z), h = g''(z) / 2 and g''' = 6 Householder's
+// step of the third order takes off g (d d - g h) / (d (d d - 2 g h) + g g). What is wrong after it goes with the fourth
+// power of what was wrong before, where a Newton step's goes with the square.
 fn closer(a: f64, b: f64, z: f64) -> f64 {
     let c = a - b - b * b;
     let g = ((z - 1.0) * z + c) * z - a * b;
@@ -26,7 +23,6 @@ fn closer(a: f64, b: f64, z: f64) -> f64 {
 
 // Where two such steps lead from a place beyond the root.
 pub(crate) fn two_steps(a: u64, b: u64, beyond: u64) -> u64
-    requires { ⌜ Within a b × (beyond ≤ farthest) ⌝ }
     ensures { λ r. ⌜ r < 2 ^ 32 ⌝ }
 {
     let attraction = of_grid(a);

@@ -22,7 +22,7 @@ add-last : tie.Need-add-last
 add-last c = omega arith
 
 two-steps-requires : tie.Need-two-steps-requires
-two-steps-requires c κs = omega arith
+two-steps-requires c κs = tt
 
 returns-3 : tie.Need-returns-3
 returns-3 c = λ inside. omega arith
