@@ -5,8 +5,8 @@ use native.Mathlib.Numerals.{add-one}
 use native.Mathlib.Omega.{arith}
 use native.Mathlib.Decide.{decLe}
 use Rattle.cubic.specs.Sides.{plus, minus, rise, bend, NotPositiveTo, Crosses, ClimbsFrom, ClimbsTo}
-use Rattle.cubic.proofs.Shape.{plus-grows, minus-grows, upwards}
-use Rattle.cubic.proofs.Lines.{not-positive-to}
+use Rattle.cubic.proofs.Shape.{upwards}
+use Rattle.cubic.proofs.Roots.{not-positive-up-to}
 use Rattle.cubic.proofs.Room.{Allows, flat, jump, gentle, steep}
 
 module _ (a b : ℕ) where
@@ -18,7 +18,7 @@ module _ (a b : ℕ) where
   pub ends-at-crossing : {z : ℕ} → z < bend → Crosses a b z → ClimbsTo a b z
   ends-at-crossing {z} limit crosses =
       record {
-        not-positive = not-positive-to a b z (omega arith) (omega (arith, plus-grows a z, minus-grows a b z, crosses .not-positive, crosses .then-positive)) (crosses .not-positive);
+        not-positive = not-positive-up-to a b (omega arith) crosses;
         found = λ h. rw add-one (crosses .then-positive);
         to-bend = omega arith;
       }

@@ -6,9 +6,10 @@ use native.Mathlib.Numerals.{add-one}
 use native.Mathlib.Omega.{arith}
 use native.Mathlib.Decide.{decLe}
 use Rattle.cubic.specs.Cubic.{N}
-use Rattle.cubic.specs.Sides.{plus, minus, plusStep, minusStep, rise, bend, PositiveFrom, Crosses, FallsFrom, Falling, FallsTo}
-use Rattle.cubic.proofs.Shape.{above-grid, plus-grows, minus-grows, downwards}
+use Rattle.cubic.specs.Sides.{plus, minus, rise, bend, PositiveFrom, Crosses, FallsFrom, Falling, FallsTo}
+use Rattle.cubic.proofs.Shape.{above-grid, downwards}
 use Rattle.cubic.proofs.Lines.{positive-from}
+use Rattle.cubic.proofs.Roots.{positive-above}
 use Rattle.cubic.proofs.Room.{Allows, jump, gentle, steep}
 
 module _ (a b : ℕ) where
@@ -31,36 +32,27 @@ module _ (a b : ℕ) where
         past-bend = omega arith;
         on-grid = omega arith;
         positive-here = positive;
-        positive = rw add-one (positive-from a b start limit (omega arith) (rw add-one at positive));
+        positive = positive-from a b start (start + 1) limit (omega arith) (omega arith) positive;
       }
 
   -- a crossing from the bend on is where the search from above ends
   pub ends-at-crossing : {z : ℕ} → bend ≤ z → Crosses a b z → FallsTo a b z
   ends-at-crossing {z} limit crosses =
       record {
-        positive = rw add-one (positive-from a b z limit (omega (arith, plus-grows a z, minus-grows a b z, crosses .not-positive, crosses .then-positive)) (crosses .then-positive));
+        positive = positive-above a b limit crosses;
         found = λ h. crosses .not-positive;
         to-bend = omega arith;
       }
 
   -- where g is positive at the bend and rises from it, no crossing is left from the bend on
   pub none-from-bend : {slope : ℕ} → slope ≡ rise a b bend → 0 < slope → minus a b bend < plus a bend → FallsTo a b (bend - 1)
-  unfolding rise PositiveFrom
+  unfolding rise
   none-from-bend is-slope some positive =
-      record { positive = from-here; found = λ h. omega arith; to-bend = omega arith }
-    where
-      rising : minusStep b bend < plusStep a bend
-      rising = omega arith
-
-      from-here : (y : ℕ) → bend ≤ y → minus a b y < plus a y
-      from-here y above = by-order (decLe (suc bend) y)
-        where
-          by-order : Dec (suc bend ≤ y) → minus a b y < plus a y
-          by-order (yes h) = positive-from a b bend (omega arith) rising (omega (arith, plus-grows a bend, minus-grows a b bend)) y h
-          by-order (no f) = rw (← same) positive
-            where
-              same : bend ≡ y
-              same = omega arith
+      record {
+        positive = positive-from a b bend bend (omega arith) (omega arith) (omega arith) positive;
+        found = λ h. omega arith;
+        to-bend = omega arith;
+      }
 
   -- the step below the next place is the one at this place
   pub slope-below : {slope : ℕ} (z : ℕ) → slope ≡ rise a b z → slope ≡ rise a b (z + 1 - 1)

@@ -35,11 +35,11 @@ module _ (a b : ℕ) where
             (λ y from to. omega (arith, away-from-bend a b (between y from to) rising)),
       )
 
-  -- what lies above a positive value that follows a rising step from the bend on is positive
-  pub positive-from : (z : ℕ) → bend ≤ z → minusStep b z < plusStep a z → minus a b (suc z) < plus a (suc z) → PositiveFrom a b (suc z)
+  -- what lies above a positive value, not below a step from the bend on that rises, is positive
+  pub positive-from : (z high : ℕ) → bend ≤ z → z ≤ high → minusStep b z < plusStep a z → minus a b high < plus a high → PositiveFrom a b high
   unfolding PositiveFrom
-  positive-from z limit rising positive y above =
-      omega (arith, rises z (suc z) y above (λ w from to. downwards limit (omega arith)) rising)
+  positive-from z high limit order rising positive y above =
+      omega (arith, rises z high y above (λ w from to. downwards limit (omega arith)) rising)
 
   -- what lies below a value that is not positive and precedes a rising step up to the bend is not positive
   pub not-positive-to : (z : ℕ) → z ≤ bend → minusStep b z < plusStep a z → plus a z ≤ minus a b z → NotPositiveTo a b z

@@ -54,15 +54,22 @@ module _ (a b : ℕ) where
   rising : {z : ℕ} → Crosses a b z → minusStep b z < plusStep a z
   rising {z} c = omega (arith, plus-grows a z, minus-grows a b z)
 
+  -- so above one from the bend on g is positive, and up to one before it g is not
+  pub positive-above : {z : ℕ} → bend ≤ z → Crosses a b z → PositiveFrom a b (z + 1)
+  positive-above {z} limit c = positive-from a b z (z + 1) limit (omega arith) (rising c) (rw add-one (c .then-positive))
+
+  pub not-positive-up-to : {z : ℕ} → z ≤ bend → Crosses a b z → NotPositiveTo a b z
+  not-positive-up-to {z} limit c = not-positive-to a b z limit (rising c) (c .not-positive)
+
   pub gas-from-bend : {z : ℕ} → bend ≤ z → Crossing a b z → GasRoot a b z
   gas-from-bend {z} limit crossing =
       let c = of-crossing crossing in
-      gas-root (c .not-positive) (rw add-one (positive-from a b z limit (rising c) (c .then-positive)))
+      gas-root (c .not-positive) (positive-above limit c)
 
   pub dense-to-bend : {z : ℕ} → z ≤ bend → Crossing a b z → DenseRoot a b z
   dense-to-bend {z} limit crossing =
       let c = of-crossing crossing in
-      dense-root (not-positive-to a b z limit (rising c) (c .not-positive)) (rw add-one (c .then-positive))
+      dense-root (not-positive-up-to limit c) (rw add-one (c .then-positive))
 
   -- where all is positive from the bend on the dense root is the gas root too, and where nothing is positive up to it the gas root the dense
   pub gas-is-dense : {z : ℕ} → PositiveFrom a b bend → DenseRoot a b z → GasRoot a b z

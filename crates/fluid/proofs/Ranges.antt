@@ -1,7 +1,6 @@
 -- Where t, p, s, a and b of an accepted state lie. Each fluid gives round ends for its t and p; the rest is the same for all: a quotient
 -- grows with what stands above its bar and falls with what stands below, so a and b are at most what the ends make them. Assumes nothing.
-use mathlib.Core.Path.{_≡_}
-use Prim.Native.Nat.{ℕ, _+_, _*_, _/_, _^_, _≤_, _<_}
+use Prim.Native.Nat.{ℕ, _+_, _*_, _/_, _≤_, _<_}
 use native.Mathlib.Nat.{le-trans, mul-le-mul, mul-le-mul-left, mul-pos, div-mul-le-self, div-le-of-le-mul}
 use native.Mathlib.Omega.{arith}
 use Rattle.fluid.specs.declared.choice.Fluid.{Fluid}
@@ -20,10 +19,11 @@ pub record Ends (least-t least-s greatest-p : ℕ) : Type 0 where
   pub a-fits : 42748000000 * greatest-p / (least-t * least-t * least-s) ≤ 11500000
   pub b-fits : 8664 * greatest-p / (100 * least-t) ≤ 1000000
 
--- what lies between such ends: the critical constants are not 0, and b is not either
+-- what lies between such ends: the critical constants are not 0, and not large, and b is not 0 either
 pub record Spans (least-t greatest-p tc pc t p : ℕ) : Type 0 where
   pub some-tc : 0 < tc
   pub some-pc : 0 < pc
+  pub pc-to : pc ≤ 10000000
   pub t-from : least-t ≤ t
   pub t-to : t ≤ 410000
   pub p-to : p ≤ greatest-p
@@ -52,7 +52,7 @@ module _ (millikelvin : ℕ) (from-coldest : coldest Hydrogen ≤ millikelvin) w
       quotient-from (omega (arith, tc-from))
       (omega (arith, div-mul-le-self (43600 * m) (m + 2180000000), mul-le-mul-left tc from-coldest))
 
-hydrogen-spans : (millikelvin pascals : ℕ) → Accepted Hydrogen millikelvin pascals → let tc = criticalMillikelvin Hydrogen millikelvin in let pc = criticalPascals Hydrogen millikelvin in Spans 5600 62800000 tc pc (10000 * millikelvin / tc) (1000000 * pascals / pc)
+pub hydrogen-spans : (millikelvin pascals : ℕ) → Accepted Hydrogen millikelvin pascals → let tc = criticalMillikelvin Hydrogen millikelvin in let pc = criticalPascals Hydrogen millikelvin in Spans 5600 62800000 tc pc (10000 * millikelvin / tc) (1000000 * pascals / pc)
 hydrogen-spans millikelvin pascals accepted =
     let cold = accepted .from-coldest in
     let tc = criticalMillikelvin Hydrogen millikelvin in
@@ -60,18 +60,7 @@ hydrogen-spans millikelvin pascals accepted =
     let t-to : 10000 * millikelvin / tc ≤ 10000 * hottest / 24500 = quotient-grows {y = 10000 * hottest} (omega arith) (tc-from millikelvin cold) (omega arith) in
     let p-to : 1000000 * pascals / pc ≤ 1000000 * highest / 797000 = quotient-grows {y = 1000000 * highest} (omega arith) (pc-from millikelvin cold) (omega arith) in
     let p-from : 1000000 * lowest / 2046765 ≤ 1000000 * pascals / pc = quotient-grows {x = 1000000 * lowest} (omega (arith, pc-from millikelvin cold)) (pc-to millikelvin cold) (omega arith) in
-    omega (arith, tc-from millikelvin cold, pc-from millikelvin cold, t-from millikelvin cold)
-
--- what is asked of hydrogen's before it is divided by: neither is 0, and 32 bits hold the pressure
-pub record Divides (tc pc : ℕ) : Type 0 where
-  pub some-tc : 0 < tc
-  pub some-pc : 0 < pc
-  pub pc-fits : pc < 2 ^ 32
-
-pub hydrogen-divides : (fluid : Fluid) (millikelvin pascals : ℕ) → fluid ≡ Hydrogen → Accepted fluid millikelvin pascals → Divides (criticalMillikelvin Hydrogen millikelvin) (criticalPascals Hydrogen millikelvin)
-hydrogen-divides fluid millikelvin pascals is-hydrogen accepted =
-    let cold = (rw is-hydrogen at accepted) .from-coldest in
-    omega (arith, tc-from millikelvin cold, pc-from millikelvin cold, pc-to millikelvin cold)
+    omega (arith, tc-from millikelvin cold, pc-from millikelvin cold, pc-to millikelvin cold, t-from millikelvin cold)
 
 -- for every fluid there are such ends
 pub record Spanned (tc pc t p : ℕ) : Type 0 where

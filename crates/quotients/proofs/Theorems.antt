@@ -1,6 +1,6 @@
 -- Every two numbers have one quotient, and it is the logic's own. Assumes nothing.
 use mathlib.Core.Logic.{⊎-elim}
-use mathlib.Core.Path.{_≡_, refl, sym, _∙_}
+use mathlib.Core.Path.{_≡_, sym, _∙_}
 use Prim.Native.Nat.{ℕ, _/_}
 use native.Mathlib.Nat.{le-antisymm, eq-zero-or-pos, div-zero}
 use Rattle.quotients.specs.Quotient.{Quotient}

@@ -4,7 +4,6 @@ use mathlib.Core.Bool.{true, not, false≢true}
 use native.Mathlib.Omega.{arith}
 use lib.Dec.{T}
 use lib.Ieee.{Float, nan, inf, fin, isNan, lt}
-use borrow.Author.Needs.{needs}
 use Rattle.doubles.proofs.whole_part.Statement.{statement}
 use Rattle.doubles.proofs.whole_part.Tie as tie
 

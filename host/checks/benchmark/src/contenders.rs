@@ -10,7 +10,7 @@ use woolyard::boundary::{FIGURES, SIDE_FIGURES};
 use woolyard::{Kind, Side, BOOK_BYTES};
 
 /// The slot that every call with a book names.
-pub const SLOT: usize = 17;
+const SLOT: usize = 17;
 
 /// What a slot holds, as its bytes.
 type Start = [u8; SLOT_BYTES];
@@ -157,15 +157,16 @@ fn with_book<'a>(states: &'a [State], starts: &'a [Start]) -> Pass<'a> {
         let mut start = starts.iter();
         pass(states, |state| {
             *slot_of(&mut book) = *start.next().expect("a start for each state");
-            black_box(proved::state_with_book(
-                state,
-                SLOT,
-                &mut book,
-                &mut figures,
-            ));
-            black_box(&figures);
+            ask_with_book(state, &mut book, &mut figures);
         })
     })
+}
+
+/// A timed call on the slot.
+#[inline]
+pub fn ask_with_book(state: &State, book: &mut [u8; BOOK_BYTES], figures: &mut [u64; FIGURES]) {
+    black_box(proved::state_with_book(state, SLOT, book, figures));
+    black_box(figures);
 }
 
 /// Nanoseconds per state of the plain scan, in one pass, since it takes long. Also checks that the

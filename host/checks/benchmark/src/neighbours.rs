@@ -1,12 +1,11 @@
 //! States that follow one another by small steps of temperature, as those of a tank that is watched: the proved call without a
 //! book and with one, beside the job in doubles.
 
-use crate::contenders::{assert_unchanged, calls, split, SLOT};
+use crate::contenders::{ask_with_book, assert_unchanged, calls, split};
 use crate::rounds::{interleaved_groups, pass, Compared, Pass};
 use crate::{peer, proved};
 use second::sheet::State;
 use second::state::{Fluid, FLUIDS};
-use std::hint::black_box;
 use woolyard::boundary::FIGURES;
 use woolyard::BOOK_BYTES;
 
@@ -81,13 +80,7 @@ fn on_one_slot(states: &[State]) -> Pass<'_> {
     Box::new(move || {
         let mut book = [0; BOOK_BYTES];
         pass(states, |state| {
-            black_box(proved::state_with_book(
-                state,
-                SLOT,
-                &mut book,
-                &mut figures,
-            ));
-            black_box(&figures);
+            ask_with_book(state, &mut book, &mut figures)
         })
     })
 }

@@ -4,7 +4,7 @@ use mathlib.Core.Path.{refl}
 use native.Mathlib.Omega.{arith}
 use borrow.Author.Needs.{needs}
 use Rattle.quotients.proofs.Theorems.{is-the-quotient}
-use Rattle.fluid.proofs.Ranges.{hydrogen-divides}
+use Rattle.fluid.proofs.Ranges.{hydrogen-spans}
 use Rattle.fluid.proofs.choice.ratios_of.Statement.{statement}
 use Rattle.fluid.proofs.choice.ratios_of.Tie as tie
 
@@ -17,7 +17,7 @@ critical-millikelvin-requires c κs = c .before .before .pre .to-hottest
 temperature-ratio-requires : tie.Need-temperature-ratio-requires
 temperature-ratio-requires c κs =
     let start = c .before .before .before in
-    omega (arith, c .critical-millikelvin .ensures, start .pre, hydrogen-divides _ _ _ (c .before .enum-told .given .1) (start .pre))
+    omega (arith, c .critical-millikelvin .ensures, start .pre, hydrogen-spans _ _ (rw (c .before .enum-told .given .1) at (start .pre)))
 
 mul-quotient : tie.Need-mul-quotient
 mul-quotient c = search needs
@@ -28,7 +28,7 @@ critical-pascals-requires c κs = search needs
 cast-quotient : tie.Need-cast-quotient
 cast-quotient c =
     let told = c .before .before .before in
-    omega (arith, c .critical-pascals .ensures, hydrogen-divides _ _ _ (told .enum-told .given .1) (told .before .before .pre))
+    omega (arith, c .critical-pascals .ensures, hydrogen-spans _ _ (rw (told .enum-told .given .1) at (told .before .before .pre)))
 
 quotient-requires : tie.Need-quotient-requires
 quotient-requires c κs = search needs
