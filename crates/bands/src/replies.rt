@@ -5,13 +5,13 @@ ghost use Rattle.bands.specs.Replies.{figures_of};
 use refusals::Refusal;
 
 // The gas root at the lower scaling and at the upper, in hundred-thousandths.
-#[derive(Drop)]
+#[derive(Clone, Copy)]
 pub enum BandReply {
     Ends { at_lower: u64, at_upper: u64 },
     Refused(Refusal),
 }
 
-#[derive(Drop)]
+#[derive(Clone, Copy)]
 pub struct BandFigures {
     pub number: u64,
     pub at_lower: u64,

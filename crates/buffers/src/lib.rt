@@ -17,8 +17,9 @@ pub fn put(buffer: &mut [u8], at: usize, text: &[u8]) -> usize
     if buffer.len() - at < text.len() {
         return at;
     }
-    let copied = bytes::copy(text, &mut buffer[at..]);
-    at + copied
+    let end = at + text.len();
+    buffer[at..end].copy_from_slice(text);
+    end
 }
 
 // The same for a number, by as few digits as it has.

@@ -9,7 +9,7 @@ use replies::{DENSE, GAS};
 use roots::Finding;
 
 // What a caller asks for: the whole reply, or one side of it by its number, which may be any at all.
-#[derive(Drop)]
+#[derive(Clone, Copy)]
 pub enum Form {
     Whole,
     Side(u64),

@@ -8,7 +8,7 @@ use refusals::Refusal;
 use replies::for_side;
 use roots::Finding;
 
-#[derive(Drop)]
+#[derive(Clone, Copy)]
 pub(crate) enum Verdict {
     Stands,
     Refused(Refusal),

@@ -5,14 +5,14 @@ ghost use Rattle.claims.specs.Replies.{figures_of};
 use refusals::Refusal;
 
 // A refused claim is the first that is, by its number in the list, from 0.
-#[derive(Drop)]
+#[derive(Clone, Copy)]
 pub enum ClaimsReply {
     AllStand,
     Refused { claim: u64, refusal: Refusal },
     LengthsDiffer,
 }
 
-#[derive(Drop)]
+#[derive(Clone, Copy)]
 pub struct ClaimsFigures {
     pub number: u64,
     pub claim: u64,

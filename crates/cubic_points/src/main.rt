@@ -8,7 +8,7 @@ use libc::{STDIN_FILENO, STDOUT_FILENO};
 
 const LARGEST: u64 = 18_446_744_073_709_551_615;
 
-#[derive(Drop)]
+#[derive(Clone, Copy)]
 struct Number {
     value: u64,
     next: usize,

@@ -16,7 +16,7 @@ const GAS_CONSTANT: u64 = 8_314_462_618;
 // molar mass's hundred-thousandths are the grid's.
 const FACTOR_OF_MOLAR_MASS: u64 = 1_000_000_000_000;
 
-#[derive(Drop)]
+#[derive(Clone, Copy)]
 pub enum Density {
     GramsPerCubicMetre(u64),
     OutOfBounds,

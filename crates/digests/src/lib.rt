@@ -86,7 +86,7 @@ fn taken(digest: Digest, byte: u8) -> Digest
 }
 
 // A number with the digits that follow it, and the place behind them.
-#[derive(Drop)]
+#[derive(Clone, Copy)]
 struct Run {
     number: u64,
     end: usize,
@@ -114,7 +114,7 @@ fn take_digits(bytes: &[u8], from: usize, number: u64) -> Run
 }
 
 // A digest, and the place up to which bytes were taken.
-#[derive(Drop)]
+#[derive(Clone, Copy)]
 struct Onward {
     digest: Digest,
     end: usize,

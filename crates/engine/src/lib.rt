@@ -8,7 +8,7 @@ use crate::shortcuts::alone;
 use cubic::{BEND, LARGEST_A, LARGEST_B};
 use searches::{dense_crossing, gas_crossing};
 
-#[derive(Drop)]
+#[derive(Clone, Copy)]
 pub enum Solution {
     Roots { gas: u64, dense: u64 },
     OutOfBounds,

@@ -11,14 +11,14 @@ use crate::oxygen::Oxygen;
 use quotients::quotient;
 use refusals::Refusal;
 
-#[derive(Drop)]
+#[derive(Clone, Copy)]
 pub enum Fluid {
     Hydrogen,
     Oxygen,
     Nitrogen,
 }
 
-#[derive(Drop)]
+#[derive(Clone, Copy)]
 pub enum Numbered {
     Fluid(Fluid),
     Refused(Refusal),
@@ -30,7 +30,7 @@ const PARTS_OF_T: u64 = 10_000;
 const PARTS_OF_P: u64 = 1_000_000;
 
 // A temperature and a pressure by the critical constants: t and p.
-#[derive(Drop)]
+#[derive(Clone, Copy)]
 pub(crate) struct Ratios {
     pub t: u64,
     pub p: u64,

@@ -20,7 +20,7 @@ const FACTOR_OF_B: u64 = 8_664;
 
 // t in ten-thousandths and p in millionths of the critical constants, s, and A* and B* in
 // hundred-thousandths.
-#[derive(Drop)]
+#[derive(Clone, Copy)]
 pub struct Reduced {
     pub t: u64,
     pub p: u64,
@@ -29,7 +29,7 @@ pub struct Reduced {
     pub b: u64,
 }
 
-#[derive(Drop)]
+#[derive(Clone, Copy)]
 pub enum Reduction {
     To { fluid: Fluid, reduced: Reduced },
     Refused(Refusal),

@@ -7,7 +7,7 @@ ghost use Rattle.fluid.specs.Inside.{LoweredFits};
 
 use crate::choice::Fluid;
 
-#[derive(Drop)]
+#[derive(Clone, Copy)]
 pub struct Hydrogen {}
 
 impl Hydrogen {

@@ -1,6 +1,6 @@
 // Nitrogen: its constants (docs/RULES.md, "Fluids"; JAXA-RM-13-019, Table 2).
 
-#[derive(Drop)]
+#[derive(Clone, Copy)]
 pub struct Nitrogen {}
 
 impl Nitrogen {

@@ -1,6 +1,6 @@
 // Oxygen: its constants (docs/RULES.md, "Fluids"; TM-564, Table 1).
 
-#[derive(Drop)]
+#[derive(Clone, Copy)]
 pub struct Oxygen {}
 
 impl Oxygen {

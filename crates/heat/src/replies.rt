@@ -2,7 +2,7 @@
 ghost use Rattle.std.specs.Prelude.{◌≡◌};
 ghost use Rattle.heat.specs.Replies.{number_of};
 
-#[derive(Drop)]
+#[derive(Clone, Copy)]
 pub enum HeatCapacity {
     KilojoulesPerKilogramKelvin(f64),
     OutOfRange,

@@ -5,7 +5,7 @@ ghost use Rattle.heat.specs.Inside.{RowFor};
 ghost use Rattle.heat.specs.Table.{table};
 
 // The five coefficients of a range, held together. The answer is A1 + A2 T + A3 T^2 + A4 T^3 + A5 T^4.
-#[derive(Drop)]
+#[derive(Clone, Copy)]
 pub(crate) struct Coefficients {
     pub a1: f64,
     pub a2: f64,

@@ -18,7 +18,7 @@ const SIXTEENTH_DIGIT: u64 = 0x1000_0000_0000_0000;
 
 const NO_DIGIT: u64 = 16;
 
-#[derive(Drop)]
+#[derive(Clone, Copy)]
 struct Pattern {
     bits: u64,
     next: usize,

@@ -4,13 +4,13 @@ ghost use Rattle.heat_table.specs.Replies.{figures_of};
 
 use refusals::Refusal;
 
-#[derive(Drop)]
+#[derive(Clone, Copy)]
 pub enum TableHeat {
     JoulesPerKilogramKelvin(u64),
     Refused(Refusal),
 }
 
-#[derive(Drop)]
+#[derive(Clone, Copy)]
 pub struct TableFigures {
     pub number: u64,
     pub heat: u64,

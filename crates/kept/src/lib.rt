@@ -22,7 +22,7 @@ const MALFORMED: u64 = 5;
 const TOO_LONG: u64 = 6;
 
 // A digest: its stage, and its numbers where it has some.
-#[derive(Drop)]
+#[derive(Clone, Copy)]
 struct Three {
     stage: u64,
     first: u64,

@@ -2,7 +2,7 @@
 ghost use Rattle.std.specs.Prelude.{◌≡◌};
 ghost use Rattle.measures.specs.Replies.{figures_of};
 
-#[derive(Drop)]
+#[derive(Clone, Copy)]
 pub enum WriteReply {
     Written { length: usize },
     ListsUnfit,
@@ -10,7 +10,7 @@ pub enum WriteReply {
     NoRoom,
 }
 
-#[derive(Drop)]
+#[derive(Clone, Copy)]
 pub struct WriteFigures {
     pub number: u64,
     pub length: usize,

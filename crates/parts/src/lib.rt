@@ -14,7 +14,7 @@ use sheets::{Cursor, Digest, State};
 
 // Where no fault was met so far: where the line begins that is not over yet, what its bytes come to, how many
 // of them are held, and how many state lines ended before it.
-#[derive(Drop)]
+#[derive(Clone, Copy)]
 pub struct Standing {
     pub cursor: Cursor,
     pub digest: Digest,
@@ -23,7 +23,7 @@ pub struct Standing {
 }
 
 // What is kept of a sheet between two of its parts.
-#[derive(Drop)]
+#[derive(Clone, Copy)]
 pub enum Reader {
     Open(Standing),
     Malformed { place: usize },
@@ -31,14 +31,14 @@ pub enum Reader {
 }
 
 // What bytes bring: the state line that ended with the last of them, or none.
-#[derive(Drop)]
+#[derive(Clone, Copy)]
 pub enum Brought {
     State(State),
     Nothing,
 }
 
 // How many bytes of a part were taken, what they brought, and the reader behind them.
-#[derive(Drop)]
+#[derive(Clone, Copy)]
 pub struct Taken {
     pub reader: Reader,
     pub brought: Brought,

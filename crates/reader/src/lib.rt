@@ -13,7 +13,7 @@ use readings::{LineReading, Reading};
 use sheets::{Digest, Next, State};
 
 // What one pass over a sheet finds: its reading, and the state line that was looked for.
-#[derive(Drop)]
+#[derive(Clone, Copy)]
 struct Found {
     reading: Reading,
     state: State,

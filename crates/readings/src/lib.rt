@@ -8,7 +8,7 @@ use sheets::State;
 pub const MOST_BYTES: usize = 65_536;
 
 // A whole sheet: how many state lines it has, or its refusal.
-#[derive(Drop)]
+#[derive(Clone, Copy)]
 pub enum Reading {
     StateLines(u64),
     Malformed { place: usize },
@@ -16,7 +16,7 @@ pub enum Reading {
 }
 
 // One state line of a sheet, or the sheet's own refusal.
-#[derive(Drop)]
+#[derive(Clone, Copy)]
 pub enum LineReading {
     State(State),
     NoSuchLine,
@@ -25,7 +25,7 @@ pub enum LineReading {
 }
 
 // The number of a reading, how many state lines, and the place of a fault.
-#[derive(Drop)]
+#[derive(Clone, Copy)]
 pub struct SheetFigures {
     pub number: u64,
     pub state_lines: u64,
@@ -33,7 +33,7 @@ pub struct SheetFigures {
 }
 
 // The number of a reply to a question for a state line, the state, and the place of a fault.
-#[derive(Drop)]
+#[derive(Clone, Copy)]
 pub struct LineFigures {
     pub number: u64,
     pub fluid: u64,

@@ -9,7 +9,7 @@ pub use sides::{DENSE, GAS, SideFigures, SideReply, for_side};
 
 // Roots are in hundred-thousandths, densities in grams per cubic metre. The kind is the case: a state
 // whose two roots are equal is One, and has one density.
-#[derive(Drop)]
+#[derive(Clone, Copy)]
 pub enum Reply {
     One {
         root: u64,
@@ -25,7 +25,7 @@ pub enum Reply {
 }
 
 // The number of a reply, and its five figures.
-#[derive(Drop)]
+#[derive(Clone, Copy)]
 pub struct Figures {
     pub number: u64,
     pub kind: u64,

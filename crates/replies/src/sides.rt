@@ -19,14 +19,14 @@ pub fn for_side(side: u64, gas: u64, dense: u64) -> u64
     dense
 }
 
-#[derive(Drop)]
+#[derive(Clone, Copy)]
 pub enum SideReply {
     Answered { root: u64, density: u64 },
     Refused(Refusal),
 }
 
 // The number of the reply, and its two figures.
-#[derive(Drop)]
+#[derive(Clone, Copy)]
 pub struct SideFigures {
     pub number: u64,
     pub root: u64,

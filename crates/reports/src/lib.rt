@@ -14,14 +14,14 @@ use tallies::{Report, add, empty, plus, report_of, row};
 pub use told::{ReportFigures, Reported};
 
 // The report as far as the sheet has come, and how many state lines it has of it.
-#[derive(Drop)]
+#[derive(Clone, Copy)]
 pub struct Running {
     pub state_lines: u64,
     pub report: Report,
 }
 
 // What is kept of a sheet between two of its parts, with its report so far.
-#[derive(Drop)]
+#[derive(Clone, Copy)]
 pub struct Reporting {
     pub reader: Reader,
     pub running: Running,

@@ -4,7 +4,7 @@ ghost use Rattle.reports.specs.Sheets.{figures_of, report_refused};
 
 use tallies::{Report, empty};
 
-#[derive(Drop)]
+#[derive(Clone, Copy)]
 pub enum Reported {
     Report(Report),
     Malformed { place: usize },
@@ -12,7 +12,7 @@ pub enum Reported {
 }
 
 // The number, the report, and the place of a fault.
-#[derive(Drop)]
+#[derive(Clone, Copy)]
 pub struct ReportFigures {
     pub number: u64,
     pub report: Report,

@@ -6,13 +6,13 @@ use engine::Solution;
 use fluid::{Fluid, Reduction};
 use refusals::Refusal;
 
-#[derive(Drop)]
+#[derive(Clone, Copy)]
 pub enum Finding {
     Roots { fluid: Fluid, gas: u64, dense: u64 },
     Refused(Refusal),
 }
 
-#[derive(Drop)]
+#[derive(Clone, Copy)]
 struct Roots {
     gas: u64,
     dense: u64,

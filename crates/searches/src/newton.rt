@@ -11,7 +11,7 @@ use guesses::nearer;
 
 // A place from which g is positive for good, with what a step down from it asks: by how much g rises to
 // it, and what g has above 1 there.
-#[derive(Drop)]
+#[derive(Clone, Copy)]
 struct Place {
     high: u64,
     slope: u64,

@@ -4,7 +4,7 @@
 
 // A state line: the number of its section's fluid, and its two numbers as written. These do not lie side by side: as they
 // do in a digest, the compiler would move both as one, and the processor would wait until both are written.
-#[derive(Drop)]
+#[derive(Clone, Copy)]
 pub struct State {
     pub millikelvin: u64,
     pub fluid: u64,
@@ -13,7 +13,7 @@ pub struct State {
 
 // Where a reading stands, at the start of a line: how many sections were begun, how many state lines the
 // last of them still lacks, and the place of the line's first byte.
-#[derive(Drop)]
+#[derive(Clone, Copy)]
 pub struct Cursor {
     pub begun: u64,
     pub left: u64,
@@ -21,7 +21,7 @@ pub struct Cursor {
 }
 
 // What comes next: a state line and the cursor behind it, the end of a good sheet, or a refusal.
-#[derive(Drop)]
+#[derive(Clone, Copy)]
 pub enum Next {
     State { state: State, after: Cursor },
     Over,
@@ -30,7 +30,7 @@ pub enum Next {
 }
 
 // A number with one digit more, or no number.
-#[derive(Drop)]
+#[derive(Clone, Copy)]
 pub enum Number {
     Is(u64),
     None,
@@ -38,7 +38,7 @@ pub enum Number {
 
 // What a line's bytes come to, taken one at a time. Nothing yet; one number, and so a count line; that and
 // its space; two numbers, and so a state line; or bytes that no line of a sheet begins with.
-#[derive(Drop)]
+#[derive(Clone, Copy)]
 pub enum Digest {
     Empty,
     First(u64),
@@ -49,7 +49,7 @@ pub enum Digest {
 
 // The line that starts at a place: its digest, where its text ends, and where the next line begins. The
 // two places are one where the bytes stop before a line's end.
-#[derive(Drop)]
+#[derive(Clone, Copy)]
 pub struct Scanned {
     pub digest: Digest,
     pub end: usize,
@@ -57,7 +57,7 @@ pub struct Scanned {
 }
 
 // A count line only moves the cursor; anything else is what comes next.
-#[derive(Drop)]
+#[derive(Clone, Copy)]
 pub enum Line {
     Count(Cursor),
     Told(Next),

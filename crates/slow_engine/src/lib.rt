@@ -8,7 +8,7 @@ use crate::signed::g;
 use cubic::{GRID, LARGEST_A, LARGEST_B};
 
 // Where a walk ended, with how many values of g it worked out.
-#[derive(Drop)]
+#[derive(Clone, Copy)]
 pub enum Walked {
     ToRoot { gas: u64, values: u64 },
     CutShort { values: u64 },

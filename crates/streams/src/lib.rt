@@ -6,7 +6,7 @@ ghost use Rattle.streams.specs.Streams.{call_of, NothingOfAFailure};
 
 // What one call came to: it moved so many bytes, or none, as at the end of an input; a signal came first;
 // or it can't.
-#[derive(Drop)]
+#[derive(Clone, Copy)]
 pub enum Call {
     Bytes(usize),
     Nothing,
@@ -15,7 +15,7 @@ pub enum Call {
 }
 
 // What was read: so many bytes, which lie at the start of the buffer. Of an input that failed none is passed on.
-#[derive(Drop)]
+#[derive(Clone, Copy)]
 pub struct Input {
     pub failed: bool,
     pub held: usize,

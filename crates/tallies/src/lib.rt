@@ -12,7 +12,7 @@ const LARGEST: u64 = 18_446_744_073_709_551_615;
 
 // The smallest or the largest gas density so far, and the line of the first state that reaches it. Line 0: no state
 // was answered so far.
-#[derive(Drop)]
+#[derive(Clone, Copy)]
 pub struct Reached {
     pub density: u64,
     pub line: u64,
@@ -20,7 +20,7 @@ pub struct Reached {
 
 // What the states of one section come to: how many were of each kind, how many were refused under each number, and
 // the gas densities of those that were answered.
-#[derive(Drop)]
+#[derive(Clone, Copy)]
 pub struct Section {
     pub one: u64,
     pub split: u64,
@@ -34,7 +34,7 @@ pub struct Section {
 }
 
 // All sections of a sheet.
-#[derive(Drop)]
+#[derive(Clone, Copy)]
 pub struct Report {
     pub hydrogen: Section,
     pub oxygen: Section,

@@ -18,7 +18,7 @@ const MOST_NUMBERS: usize = 4;
 pub const LONGEST_LINE: usize = LONGEST_WORD + MOST_NUMBERS * (1 + MOST_DIGITS) + 1;
 
 // The line is the first bytes, as many as the length says. What lies behind them is not told.
-#[derive(Drop)]
+#[derive(Clone, Copy)]
 pub struct Text {
     pub bytes: [u8; LONGEST_LINE],
     pub length: usize,

@@ -2,13 +2,13 @@
 ghost use Rattle.std.specs.Prelude.{◌≡◌};
 ghost use Rattle.viscosity.specs.Replies.{figures_of};
 
-#[derive(Drop)]
+#[derive(Clone, Copy)]
 pub enum ExcessFactor {
     Millionths(u64),
     OutOfRange,
 }
 
-#[derive(Drop)]
+#[derive(Clone, Copy)]
 pub struct ExcessFigures {
     pub number: u64,
     pub factor: u64,

@@ -5,13 +5,13 @@ ghost use Rattle.walks.specs.Replies.{figures_of};
 use refusals::Refusal;
 
 // A refused walk brings how many values of g it worked out, which are none but for one that was cut short.
-#[derive(Drop)]
+#[derive(Clone, Copy)]
 pub enum WalkReply {
     ToRoot { gas_root: u64, values: u64 },
     Refused { refusal: Refusal, values: u64 },
 }
 
-#[derive(Drop)]
+#[derive(Clone, Copy)]
 pub struct WalkFigures {
     pub number: u64,
     pub gas_root: u64,

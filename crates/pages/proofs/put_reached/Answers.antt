@@ -1,0 +1,12 @@
+-- `pages::put_reached` meets its contract: its two rows, one behind another. Assumes nothing.
+use borrow.Author.Rules.{rules}
+use Rattle.pages.proofs.Filling.{both_fill}
+use Rattle.pages.proofs.put_reached.Goals as goal
+
+-- slice-aggregate-put-row c = search rules
+
+pub returns : goal.returns
+returns c =
+    let line = c.before.before in
+    let density = line.before.before.before.before.before in
+    both_fill density.put_row.ensures line.put_row2.ensures

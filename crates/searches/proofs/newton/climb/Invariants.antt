@@ -1,0 +1,11 @@
+-- `searches::newton::climb` meets its contract. The loop's invariant: the search stands at `low`, before the bend. The measure is the way
+-- left to the bend. What a turn may conclude is in `Climbs.antt` of `cubic`. Assumes nothing.
+use Prim.Native.Nat.{◌-◌}
+use Rattle.cubic.specs.Sides.{bend, ClimbsFrom}
+use Rattle.searches.proofs.newton.climb.Given as goal
+
+abbrev pub invariant-loop-a : goal.invariant-loop-a
+invariant-loop-a l = ClimbsFrom l.a l.b l.low
+
+abbrev pub decreases-loop-a : goal.decreases-loop-a
+decreases-loop-a l = bend - l.low

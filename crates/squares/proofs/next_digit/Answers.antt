@@ -1,0 +1,32 @@
+use mathlib.Core.Logic.{⊎_elim}
+use Prim.Native.Nat.{◌-◌}
+use native.Mathlib.Omega.{arith}
+use Rattle.squares.proofs.Digits.{none_tried, one_too_large, one_fits, all_tried}
+use Rattle.squares.proofs.next_digit.Goals as goal
+
+pub loop-tried-init : goal.loop-tried-init
+loop-tried-init c = (0, none_tried (omega arith))
+
+pub loop-tried-preserved : goal.loop-tried-preserved
+loop-tried-preserved c =
+    let turn = c.before.before in
+    let loop = turn.loop-tried in
+    let is-product = c.product.ensures in
+    ⊎_elim
+    (λ over. (loop.invariant.0, rw over.1 (one_too_large loop.invariant.1 (omega arith) (omega (arith, over.0.taken, is-product)))))
+    (λ under. (loop.tried, rw under.1 (one_fits loop.invariant.1 (omega arith) (omega (arith, under.0.left, is-product)))))
+    c.if-left-product.branch
+
+pub returns : goal.returns
+returns c = all_tried c.requires c.loop-tried.invariant.1 (omega arith)
+
+pub product-requires : goal.product-requires
+product-requires c = (c.requires.root_to, omega arith)
+
+pub overflow_sub-digit : goal.overflow_sub-digit
+overflow_sub-digit c =
+    let counted = c.loop-tried.invariant.1 in
+    omega (arith, counted.under, counted.count)
+
+pub overflow_step-tried : goal.overflow_step-tried
+overflow_step-tried c = omega arith

@@ -1,0 +1,8 @@
+-- `texts::put_numbers` meets its contract. The loop's invariant is `SoFar`: the numbers that are left are what is left to put. The measure is how
+-- many are left. Assumes nothing.
+use Prim.Native.Nat.{◌-◌}
+use Rattle.texts.proofs.Numbers.{SoFar}
+use Rattle.texts.proofs.put_numbers.Given as goal
+
+abbrev pub invariant-loop-taken : goal.invariant-loop-taken
+invariant-loop-taken l = SoFar l.numbers l.initial.buffer l.at l.taken l.buffer l.end

@@ -1,0 +1,33 @@
+-- `viscosity::excess_factor` meets its contract: it refuses outside the range, and inside it 64 bits hold both squares, of which 1 can be taken
+-- away. Assumes nothing.
+use mathlib.Core.Path.{refl, ap}
+use native.Mathlib.Omega.{arith}
+use Rattle.viscosity.specs.Factor.{squared}
+use Rattle.viscosity.specs.Replies.{answers, refuses}
+use Rattle.viscosity.proofs.Room.{squares_fit}
+use Rattle.viscosity.proofs.Factors.{fourth_is_above_one, factor_of}
+use Rattle.viscosity.proofs.excess_factor.Goals as goal
+
+pub returns-then-thousandths-lt-THINNEST : goal.returns-then-thousandths-lt-THINNEST
+returns-then-thousandths-lt-THINNEST c = refuses (λ in_range. omega arith) refl
+
+pub returns-then-thousandths-gt-DENSEST : goal.returns-then-thousandths-gt-DENSEST
+returns-then-thousandths-gt-DENSEST c = refuses (λ in_range. omega arith) refl
+
+pub squared-square-requires : goal.squared-square-requires
+squared-square-requires c = omega (arith, squares_fit c.args.thousandths (omega arith))
+
+pub squared-fourth_power-requires : goal.squared-fourth_power-requires
+squared-fourth_power-requires c =
+    let asked = c.before in
+    omega (arith, c.squared-square.ensures, ap squared asked.quartic.ensures, squares_fit asked.args.thousandths (omega arith))
+
+pub overflow_sub-result : goal.overflow_sub-result
+overflow_sub-result c =
+    let asked = c.before.before in
+    omega (arith, fourth_is_above_one _ asked.quartic.ensures c.squared-square.ensures c.squared-fourth_power.ensures)
+
+pub returns : goal.returns
+returns c =
+    let asked = c.before.before in
+    answers _ (omega arith) (factor_of _ asked.quartic.ensures c.squared-square.ensures c.squared-fourth_power.ensures) refl

@@ -1,0 +1,20 @@
+-- `woolyard::woolyard_heat` meets its contract: the double is written where the answer has one. Assumes nothing.
+use Rattle.heat.specs.declared.replies.HeatCapacity.TheVariants.{KilojoulesPerKilogramKelvin, OutOfRange}
+use Rattle.heat.proofs.Theorems.{answer_is_no_nan}
+use Rattle.woolyard.proofs.Laying.{heat_laid}
+use Rattle.woolyard.proofs.woolyard_heat.Goals as goal
+
+-- an answer is no NaN, so it has its bits
+pub float_to_bits-heat : goal.float_to_bits-heat
+float_to_bits-heat c =
+    answer_is_no_nan _ _ (rw c.in-KilojoulesPerKilogramKelvin.is at c.before.before.before.before.«ideal-heat-capacity».ensures)
+
+pub returns-in-KilojoulesPerKilogramKelvin : goal.returns-in-KilojoulesPerKilogramKelvin
+returns-in-KilojoulesPerKilogramKelvin c =
+    let called = c.before.before.before in
+    heat_laid _ _ _ _ (KilojoulesPerKilogramKelvin _) c.in-KilojoulesPerKilogramKelvin.is called.before.«ideal-heat-capacity».ensures called.number.ensures
+
+pub returns-in-OutOfRange : goal.returns-in-OutOfRange
+returns-in-OutOfRange c =
+    let called = c.before.before in
+    heat_laid _ _ _ _ OutOfRange c.in-OutOfRange.is called.before.«ideal-heat-capacity».ensures called.number.ensures
