@@ -14,10 +14,9 @@ returns-then-buffer-at-2 c = no_room (omega arith) refl refl
 
 pub returns : goal.returns
 returns c =
-    let copied = c.before.before in
-    let asked = copied.args in
+    let asked = c.args in
     has_room (omega arith)
     (record {
-      is_after = holding_copied asked.text.now asked.buffer.now copied.copy.new.1.0 asked.at (omega arith) copied.copy.ensures.1;
-      reaches = ap (λ (n : ℕ). asked.at + n) copied.copy.ensures.0;
+      is_after = holding_copied asked.text.now asked.buffer.now c.copy.new.1.0 asked.at (omega arith) c.copy.ensures.1;
+      reaches = ap (λ (n : ℕ). asked.at + n) c.copy.ensures.0;
     })

@@ -12,6 +12,5 @@ few c = no_more_digits c.args.number _ most_digits c.decimal-count.ensures.1.0 (
 
 pub returns : goal.returns
 returns c =
-    let put = c.before.before in
-    let made = put.before.before.before in
-    puts_same (made.decimal.ensures.1.1 ∙ toolchain_digits _ most_digits _ made.decimal.ensures.1.0 (few made)) put.put.ensures
+    let made = c.before.before.before.before.before in
+    puts_same (made.decimal.ensures.1.1 ∙ toolchain_digits _ most_digits _ made.decimal.ensures.1.0 (few made)) c.put.ensures

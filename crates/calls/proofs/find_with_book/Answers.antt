@@ -11,10 +11,9 @@ found c = rw c.in-Roots.is at c.find.ensures
 
 pub returns-then-leave : goal.returns-then-leave
 returns-then-leave c =
-    let left = c.before.before.before in
-    let state = left.before.before.before in
+    let state = c.before.before.before.before.before.before in
     let start = state.args in
-    found_with_book start.form _ _ _ _ (found state) _ _ _ (rw c.if-leave.true at left.leave.ensures)
+    found_with_book start.form _ _ _ _ (found state) _ _ _ (rw c.if-leave.true at c.leave.ensures)
 
 pub returns-in-Refused : goal.returns-in-Refused
 returns-in-Refused c =
@@ -23,7 +22,6 @@ returns-in-Refused c =
 
 pub returns-else-leave : goal.returns-else-leave
 returns-else-leave c =
-    let left = c.before.before.before in
-    let state = left.before.before.before in
+    let state = c.before.before.before.before.before.before in
     let start = state.args in
-    refused_by_slot start.form _ _ _ _ (found state) _ _ _ (rw c.if-leave.false at left.leave.ensures)
+    refused_by_slot start.form _ _ _ _ (found state) _ _ _ (rw c.if-leave.false at c.leave.ensures)
