@@ -8,7 +8,7 @@ use Rattle.state.proofs.Answering.{refused_with_book, weighty_with_book, answere
 use Rattle.state.proofs.ask_side_with_book.Goals as goal
 
 -- what `calls::find_with_book` says of an accepted state
-found : (c : goal.In-Roots) → let start = c.args in FindsWithBook (Side start.side) start.fluid start.millikelvin start.pascals start.slot start.book.now (with_value (record { fluid = c.in-Roots.fluid; gas = c.in-Roots.gas; dense = c.in-Roots.dense })) c.find_with_book.new.1.1.1.1.1.0
+found : (c : goal.In-Roots) → let start = c.args in FindsWithBook (Side start.side) start.fluid start.millikelvin start.pascals start.slot start.book.now (with_value (record { fluid = c.in-Roots.fluid; gas = c.in-Roots.gas; dense = c.in-Roots.dense })) c.find_with_book.new.book
 found c = rw c.in-Roots.is at c.find_with_book.ensures
 
 pub returns-in-Refused : goal.returns-in-Refused
