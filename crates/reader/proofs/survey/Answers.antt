@@ -4,9 +4,8 @@ use Rattle.sheets.specs.declared.Next.TheVariants as Next
 use Rattle.sheets.specs.Grammar.{all_sections}
 use Rattle.readings.proofs.Nexts.{next_came}
 use Rattle.sheets.proofs.Walks.{comes_moves}
-use Rattle.reader.proofs.Surveys.{begins, few, walks_here, walks_past, found_all, found_fault}
+use Rattle.reader.proofs.Surveys.{begins, few, walks_on, found_all, found_fault}
 use Rattle.reader.proofs.survey.Goals as goal
-use Rattle.reader.proofs.survey.Goals.{then-state_lines-k, else-state_lines-k}
 
 pub loop-state-init : goal.loop-state-init
 loop-state-init c = rw c.start-cursor.ensures (begins _ _)
@@ -23,10 +22,7 @@ pub loop-state-preserved : goal.loop-state-preserved
 loop-state-preserved c =
     let walked = c.loop-state.invariant in
     let comes = (next_came _ _ (Next.State _ _) c.in-State.is c.next.ensures).comes in
-    elim c.if-state_lines-k.branch
-    [ then-state_lines-k w ↦ walks_here walked _ _ comes _ w.if-state_lines-k.true w.wanted-is
-    | else-state_lines-k w ↦ walks_past walked _ _ comes _ w.if-state_lines-k.false w.wanted-is
-    ]
+    walks_on walked _ _ comes _ (grind arith)
 
 pub returns-in-Over : goal.returns-in-Over
 returns-in-Over c = found_all c.loop-state.invariant (next_came _ _ Next.Over c.in-Over.is c.next.ensures)
