@@ -74,7 +74,7 @@ fn came_to(got: isize, interrupted: bool, most: usize) -> Call
 #[tactic(auto, using(crate::proofs::Calls::lent))]
 pub fn read<R: Read>(input: &mut R, buffer: &mut [u8], why: &mut Option<io::Error>) -> Input
     ensures prefix_len { IsPrefixLen result.held buffer.new }
-    ensures nothing_of_afailure { NothingOfAFailure result }
+    ensures nothing_of_a_failure { NothingOfAFailure result }
 {
     let mut held = 0;
     let mut calls = MOST_CALLS;
