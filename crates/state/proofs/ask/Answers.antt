@@ -1,8 +1,6 @@
 -- `state::ask` meets its contract: a refusal is passed on, and the two roots of an accepted state make its answer (`Answering.antt`).
 -- Assumes nothing.
 use mathlib.Core.List.{[]}
-use Rattle.refusals.specs.Checks.{with_value}
-use Rattle.roots.specs.Promise.{Finds}
 use Rattle.state.proofs.Answering.{refused, weighty, answered}
 use Rattle.state.proofs.ask.Goals as goal
 

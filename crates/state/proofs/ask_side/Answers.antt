@@ -1,9 +1,7 @@
 -- `state::ask_side` meets its contract: a refusal is passed on, and the side's root of an accepted state makes its answer (`Answering.antt`).
 -- Assumes nothing.
-use Rattle.refusals.specs.Checks.{with_value}
 use Rattle.calls.specs.declared.Form.TheVariants.{Side}
 use Rattle.calls.specs.Checks.{form_checks}
-use Rattle.calls.specs.Promise.{FindsAs}
 use Rattle.replies.proofs.Theorems.{side_as, side_refused}
 use Rattle.state.proofs.Answering.{refused, weighty, answered}
 use Rattle.state.proofs.ask_side.Goals as goal

@@ -1,8 +1,6 @@
 -- `state::ask_side_with_book` meets its contract: a refusal is passed on with the book as it was, and the side's root of an accepted state makes
 -- its answer, the gas root left in the slot (`Answering.antt`). Assumes nothing.
-use Rattle.refusals.specs.Checks.{with_value}
 use Rattle.calls.specs.declared.Form.TheVariants.{Side}
-use Rattle.calls.specs.Promise.{FindsWithBook}
 use Rattle.replies.proofs.Theorems.{side_as, side_refused}
 use Rattle.state.proofs.Answering.{refused_with_book, weighty_with_book, answered_with_book}
 use Rattle.state.proofs.ask_side_with_book.Goals as goal

@@ -1,8 +1,6 @@
 -- `state::ask_with_book` meets its contract: a refusal is passed on with the book as it was, and the two roots of an accepted state make its
 -- answer, the gas root left in the slot (`Answering.antt`). Assumes nothing.
-use Rattle.refusals.specs.Checks.{with_value}
 use Rattle.calls.specs.declared.Form.TheVariants.{Whole}
-use Rattle.calls.specs.Promise.{FindsWithBook}
 use Rattle.state.proofs.Answering.{refused_with_book, weighty_with_book, answered_with_book}
 use Rattle.state.proofs.ask_with_book.Goals as goal
 
