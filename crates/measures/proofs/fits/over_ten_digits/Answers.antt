@@ -1,4 +1,3 @@
-use Prim.Native.Nat.{◌-◌}
 use native.Mathlib.Omega.{arith}
 use Rattle.measures.proofs.Numbers.{none_passed, one_passed, one_found, all_passed}
 use Rattle.measures.proofs.fits.over_ten_digits.Goals as goal

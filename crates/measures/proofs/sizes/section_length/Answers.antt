@@ -1,4 +1,3 @@
-use Prim.Native.Nat.{◌-◌}
 use native.Mathlib.Omega.{arith}
 use Rattle.measures.proofs.Lengths.{count_measured, writable_here, line_measured, all_measured}
 use Rattle.measures.proofs.sizes.section_length.Goals as goal

@@ -1,4 +1,3 @@
-use Prim.Native.Nat.{◌-◌}
 use native.Mathlib.Omega.{arith}
 use Rattle.measures.proofs.Lengths.{one_digit, one_more_digit, all_digits}
 use Rattle.measures.proofs.sizes.width.Goals as goal
