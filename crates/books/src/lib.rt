@@ -1,6 +1,8 @@
 // The book of starting points (docs/RULES.md, "The book"): 192 bytes that the page lends, three to a
 // slot, the lowest first. What a slot says is a place to look first; an answered call leaves its gas root
 // there.
+#![tactic(auto)]
+
 ghost use Rattle.std.specs.Prelude.{◌≡◌, ◌<◌, length};
 ghost use Rattle.books.specs.Layouts.{HasSlot};
 ghost use Rattle.books.specs.Bytes.{in_bytes};

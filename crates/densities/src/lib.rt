@@ -1,4 +1,6 @@
 // The density of a root (docs/RULES.md, "Densities").
+#![tactic(auto)]
+
 ghost use Rattle.std.specs.Prelude.{◌≡◌, ◌*◌, ◌/◌, ◌%◌, ◌≤◌};
 ghost use Rattle.fluid.specs.Figures.{highest};
 ghost use Rattle.densities.specs.Densities.{gas_constant, density_factor};

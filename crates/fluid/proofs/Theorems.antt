@@ -6,10 +6,8 @@ use Prim.Native.Nat.{ℕ, ◌*◌, ◌/◌, ◌≤◌, ◌<◌}
 use native.Mathlib.Omega.{arith}
 use Rattle.fluid.specs.declared.choice.Fluid.{Fluid}
 use Rattle.fluid.specs.declared.choice.Numbered.{Numbered}
-use Rattle.fluid.specs.declared.choice.Numbered.TheVariants as Numbered
 use Rattle.fluid.specs.declared.coefficients.Reduced.{Reduced}
 use Rattle.fluid.specs.declared.coefficients.Reduction.{Reduction}
-use Rattle.fluid.specs.declared.coefficients.Reduction.TheVariants as Reduction
 use Rattle.fluid.specs.Figures.{number_of, molar_mass, critical_millikelvin, Accepted}
 use Rattle.squares.proofs.Theorems.{square_root_determined, square_root_exists}
 use Rattle.fluid.specs.Reduced.{Reduces}

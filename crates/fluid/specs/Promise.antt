@@ -4,10 +4,8 @@ use Rattle.refusals.specs.Checks.{Outcome, with_value, with_number, Gives}
 use Rattle.refusals.specs.Numbers.{number_of_refusal}
 use Rattle.fluid.specs.declared.choice.Fluid.{Fluid}
 use Rattle.fluid.specs.declared.choice.Numbered.{Numbered}
-use Rattle.fluid.specs.declared.choice.Numbered.TheVariants as Numbered
 use Rattle.fluid.specs.declared.coefficients.Reduced.{Reduced}
 use Rattle.fluid.specs.declared.coefficients.Reduction.{Reduction}
-use Rattle.fluid.specs.declared.coefficients.Reduction.TheVariants as Reduction
 use Rattle.fluid.specs.Figures.{number_of}
 use Rattle.fluid.specs.Checks.{fluid_checks, state_checks}
 use Rattle.fluid.specs.Reduced.{Reduces}

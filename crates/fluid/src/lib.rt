@@ -1,5 +1,7 @@
 // From a state to the cubic (docs/RULES.md): the fluids' figures, the reduced numbers t, p and s, and the
 // coefficients a and b.
+#![tactic(auto)]
+
 mod choice;
 mod coefficients;
 pub mod hydrogen;

@@ -19,7 +19,7 @@ use Rattle.heat.proofs.Ranges.{range_of, found_holds}
 use Rattle.heat.proofs.Decided.{told_inside, in_or_out}
 use Rattle.heat.proofs.Exactly.{in_range_is_answered, out_of_range_is_refused}
 use Rattle.heat.proofs.Points.{told_held}
-use Rattle.heat.proofs.Finite as finite-answers
+use Rattle.heat.proofs.Finite as finite_answers
 use Rattle.heat.proofs.Constant.{constant_up_to_40}
 
 -- ---- the contract fixes the reply, and every double has one

@@ -1,6 +1,8 @@
 // A quotient rounded down, that is guessed and then tested: a processor divides doubles more quickly than
 // 64-bit whole numbers, or at the same time as these. What doubles come to is nowhere relied on: a guess may
 // change how long an answer takes, never what it is.
+#![tactic(auto)]
+
 ghost use Rattle.quotients.specs.Quotient.{Quotient};
 
 use doubles::whole_part;

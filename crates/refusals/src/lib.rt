@@ -1,5 +1,7 @@
 // The refusals of a state (docs/RULES.md, "Replies"), and the number of each. Which of them a call
 // gives is said by its list of checks (specs/Checks.antt), in the rules' order.
+#![tactic(auto)]
+
 ghost use Rattle.std.specs.Prelude.{◌≡◌};
 ghost use Rattle.refusals.specs.Numbers.{number_of_refusal};
 

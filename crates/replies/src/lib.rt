@@ -1,4 +1,6 @@
 // The reply to a state, and what docs/RULES.md, "Replies", says of each of its cases.
+#![tactic(auto)]
+
 mod sides;
 
 ghost use Rattle.std.specs.Prelude.{◌≡◌};

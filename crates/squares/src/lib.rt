@@ -15,6 +15,8 @@
 // same number, 100 x 13 + 63 = 7763 - 80 x 80 = 1363, and a processor waits less for it: there are fewer
 // steps from one digit to the next, and 7763, which is n / 10000, waits for no digit. docs/SQUARE-ROOT.md
 // goes through it step by step.
+#![tactic(auto)]
+
 ghost use Rattle.std.specs.Prelude.{◌≡◌, ◌+◌, ◌*◌, ◌/◌, ◌^◌, ◌≤◌, ◌<◌};
 ghost use Rattle.squares.specs.SquareRoot.{SquareRoot};
 ghost use Rattle.squares.specs.Inside.{AfterPairs, ForOneDigit, NextDigit, all_pairs, largest_root, product};

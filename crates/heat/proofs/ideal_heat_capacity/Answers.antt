@@ -16,16 +16,15 @@ coefficients_at-coefficients-requires c = between _ c.args.kelvin _ tt tt (passe
 pub returns-then-kelvin-2 : goal.returns-then-kelvin-2
 unfolding of_bits
 returns-then-kelvin-2 c =
-    let tested = c.before.before in
-    let kelvin = tested.args.kelvin in
-    let is_number = coefficients_at-coefficients-requires tested tt in
+    let kelvin = c.args.kelvin in
+    let is_number = between _ kelvin _ tt tt (passed c.if-kelvin.true) (passed c.if-kelvin-2.true) in
     let row = c.coefficients_at-coefficients.ensures in
     record {
       in_range =
           record {
             is_number = is_number;
-            from_14 = at_least 14 _ kelvin (tt, refl, refl) is_number tested.if-kelvin.true;
-            to_1000 = at_most 1000 _ kelvin (tt, refl, refl) is_number tested.if2.true;
+            from_14 = at_least 14 _ kelvin (tt, refl, refl) is_number c.if-kelvin.true;
+            to_1000 = at_most 1000 _ kelvin (tt, refl, refl) is_number c.if-kelvin-2.true;
           };
       range = row.range;
       holds = row.holds;

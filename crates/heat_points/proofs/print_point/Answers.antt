@@ -7,9 +7,7 @@ use Rattle.heat_points.proofs.print_point.Goals as goal
 
 pub float_to_bits-heat : goal.float_to_bits-heat
 float_to_bits-heat c =
-    let matched = c.before.before.before in
-    let asked = matched.before.before in
-    answer_is_no_nan _ _ (rw matched.in-KilojoulesPerKilogramKelvin.is at asked.ideal_heat_capacity.ensures)
+    answer_is_no_nan _ _ (rw c.in-KilojoulesPerKilogramKelvin.is at c.ideal_heat_capacity-reply.ensures)
 
 -- slice-aggregate-write-all-2 c = search rules
 

@@ -5,9 +5,7 @@ use Rattle.laying.proofs.lay_line.Goals as goal
 
 pub returns-in-State : goal.returns-in-State
 returns-in-State c =
-    let laid = c.before in
-    let asked = laid.before.before in
-    brought_laid _ asked.ask.result _ asked.in-State.is asked.ask.ensures laid.lay_figures.ensures refl
+    brought_laid _ c.ask-reply.result _ c.in-State.is c.ask-reply.ensures c.lay_figures-number.ensures refl
 
 pub returns-in-Nothing : goal.returns-in-Nothing
 returns-in-Nothing c = rw c.in-Nothing.is refl

@@ -6,7 +6,4 @@ use Rattle.pages.proofs.put_cell.Goals as goal
 
 pub returns : goal.returns
 returns c =
-    let put = c.before.before in
-    let gap = put.before.before.before.before in
-    let asked = gap.before.before.before.before in
-    right_fills asked.requires.0 gap.put_spaces.ensures (put_fills _ (omega arith) refl put.put.ensures)
+    right_fills c.requires.0 c.put_spaces-begin.ensures (put_fills _ (omega arith) refl c.put.ensures)

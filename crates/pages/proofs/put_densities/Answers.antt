@@ -12,7 +12,4 @@ use Rattle.pages.proofs.put_densities.Goals as goal
 
 pub returns : goal.returns
 returns c =
-    let largest = c.before.before in
-    let smallest = largest.before.before.before.before.before in
-    let sum = smallest.before.before.before.before.before in
-    row_before sum.put_row.ensures refl (two_before smallest.put_reached.ensures refl (two_before largest.put_reached2.ensures refl (no_rows largest.put_reached2.ensures)))
+    row_before c.put_row-smallest.ensures refl (two_before c.put_reached.ensures refl (two_before c.put_reached.ensures refl (no_rows c.put_reached.ensures)))

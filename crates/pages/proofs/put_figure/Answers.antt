@@ -23,5 +23,4 @@ put_cell-requires c =
 
 pub returns : goal.returns
 returns c =
-    let cell = c.before.before in
-    same_fills cell.put_cell.ensures (ap (right_aligned cell_columns) (written cell.before.before.before.before).are_digits)
+    same_fills c.put_cell.ensures (ap (right_aligned cell_columns) (written c.before.before.before.before.before.before).are_digits)

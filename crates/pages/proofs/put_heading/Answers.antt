@@ -19,9 +19,4 @@ use Rattle.pages.proofs.put_heading.Goals as goal
 pub returns : goal.returns
 unfolding heading
 returns c =
-    let ended = c.before.before in
-    let nitrogen = ended.before.before.before.before.before in
-    let oxygen = nitrogen.before.before.before.before.before in
-    let hydrogen = oxygen.before.before.before.before.before in
-    let label = hydrogen.before.before.before.before.before in
-    line_fills label.put_label.ensures hydrogen.put_cell.ensures oxygen.put_cell2.ensures nitrogen.put_cell3.ensures ended.put.ensures refl (omega arith)
+    line_fills c.put_label-first.ensures c.put_cell-second.ensures c.put_cell-third.ensures c.put_cell-heading_end.ensures c.put.ensures refl (omega arith)

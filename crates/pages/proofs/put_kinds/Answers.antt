@@ -10,6 +10,4 @@ use Rattle.pages.proofs.put_kinds.Goals as goal
 
 pub returns : goal.returns
 returns c =
-    let split = c.before.before in
-    let one = split.before.before.before.before.before in
-    row_before one.put_row.ensures refl (row_before split.put_row2.ensures refl (no_rows split.put_row2.ensures))
+    row_before c.put_row.ensures refl (row_before c.put_row.ensures refl (no_rows c.put_row.ensures))

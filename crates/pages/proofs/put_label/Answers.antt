@@ -7,13 +7,9 @@ use Rattle.pages.proofs.put_label.Goals as goal
 
 pub put_spaces-requires : goal.put_spaces-requires
 put_spaces-requires c =
-    let put = c.before.before.before in
-    let label = put_with_room put.put.ensures (omega arith) in
+    let label = put_with_room c.put-end.ensures (omega arith) in
     omega (arith, label.reaches)
 
 pub returns : goal.returns
 returns c =
-    let gap = c.before.before in
-    let put = gap.before.before.before.before in
-    let asked = put.before.before.before.before in
-    left_fills asked.requires.0 (put_fills _ (omega arith) refl put.put.ensures) gap.put_spaces.ensures
+    left_fills c.requires.0 (put_fills _ (omega arith) refl c.put-end.ensures) c.put_spaces.ensures

@@ -4,8 +4,4 @@ use Rattle.pages.proofs.put_page.Goals as goal
 
 pub returns : goal.returns
 returns c =
-    let densities = c.before.before in
-    let refusals = densities.before.before.before.before in
-    let kinds = refusals.before.before.before.before in
-    let heading = kinds.before.before.before.before in
-    both_fill heading.put_heading.ensures (both_fill kinds.put_kinds.ensures.fills (both_fill refusals.put_refusals.ensures.fills densities.put_densities.ensures.fills))
+    both_fill c.put_heading-kinds.ensures (both_fill c.put_kinds-refusals.ensures.fills (both_fill c.put_refusals-densities.ensures.fills c.put_densities.ensures.fills))

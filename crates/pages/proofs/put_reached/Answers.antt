@@ -7,6 +7,4 @@ use Rattle.pages.proofs.put_reached.Goals as goal
 
 pub returns : goal.returns
 returns c =
-    let line = c.before.before in
-    let density = line.before.before.before.before.before in
-    both_fill density.put_row.ensures line.put_row2.ensures
+    both_fill c.put_row.ensures c.put_row.ensures

@@ -14,8 +14,4 @@ use Rattle.pages.proofs.put_refusals.Goals as goal
 
 pub returns : goal.returns
 returns c =
-    let too_high = c.before.before in
-    let too_low = too_high.before.before.before.before.before in
-    let too_hot = too_low.before.before.before.before.before in
-    let too_cold = too_hot.before.before.before.before.before in
-    row_before too_cold.put_row.ensures refl (row_before too_hot.put_row2.ensures refl (row_before too_low.put_row3.ensures refl (row_before too_high.put_row4.ensures refl (no_rows too_high.put_row4.ensures))))
+    row_before c.put_row.ensures refl (row_before c.put_row-too_low.ensures refl (row_before c.put_row-too_high.ensures refl (row_before c.put_row.ensures refl (no_rows c.put_row.ensures))))

@@ -11,9 +11,4 @@ use Rattle.pages.proofs.put_row.Goals as goal
 pub returns : goal.returns
 unfolding row_text
 returns c =
-    let ended = c.before.before in
-    let nitrogen = ended.before.before.before.before.before in
-    let oxygen = nitrogen.before.before.before.before in
-    let hydrogen = oxygen.before.before.before.before in
-    let label = hydrogen.before.before.before.before in
-    line_fills label.put_label.ensures hydrogen.put_figure.ensures oxygen.put_figure2.ensures nitrogen.put_figure3.ensures ended.put.ensures refl (omega arith)
+    line_fills c.put_label-first.ensures c.put_figure-second.ensures c.put_figure-third.ensures c.put_figure-row_end.ensures c.put.ensures refl (omega arith)

@@ -13,6 +13,4 @@ slice_bounds-put-end c = sym (length-take-le _ _ c.requires.0)
 
 pub returns : goal.returns
 returns c =
-    let put = c.before.before in
-    let asked = put.before.before.before.before in
-    put_fills asked.args.many asked.requires.1 (length-replicate asked.args.many space) (puts_same (first_spaces asked.args.many label_columns asked.requires.0) put.put.ensures)
+    put_fills c.args.many c.requires.1 (length-replicate c.args.many space) (puts_same (first_spaces c.args.many label_columns c.requires.0) c.put.ensures)

@@ -5,15 +5,12 @@ use Rattle.report_printing.proofs.print.Goals as goal
 
 pub returns-in-Report : goal.returns-in-Report
 returns-in-Report c =
-    let arm = c.before.before.before in
-    prints_page arm.report.ensures arm.in-Report.report _ arm.in-Report.is c.page.ensures
+    prints_page c.report.ensures c.in-Report.report _ c.in-Report.is c.page.ensures
 
 pub returns-in-Malformed : goal.returns-in-Malformed
 returns-in-Malformed c =
-    let arm = c.before.before.before in
-    (c.put_fault.ensures.0, prints arm.report.ensures (Reported.Malformed arm.in-Malformed.place) arm.in-Malformed.is c.put_fault.ensures.1)
+    (c.put_fault.ensures.0, prints c.report.ensures (Reported.Malformed c.in-Malformed.place) c.in-Malformed.is c.put_fault.ensures.1)
 
 pub returns-in-TooLong : goal.returns-in-TooLong
 returns-in-TooLong c =
-    let arm = c.before.before in
-    (c.put_fault-in-TooLong.ensures.0, prints arm.report.ensures Reported.TooLong arm.in-TooLong.is c.put_fault-in-TooLong.ensures.1)
+    (c.put_fault-in-TooLong.ensures.0, prints c.report.ensures Reported.TooLong c.in-TooLong.is c.put_fault-in-TooLong.ensures.1)

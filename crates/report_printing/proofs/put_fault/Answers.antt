@@ -9,6 +9,4 @@ slice_bounds-put-end c = sym (length-take-le _ _ c.fault_text-line.ensures.sized
 
 pub returns : goal.returns
 returns c =
-    let put = c.before.before in
-    let worded = put.before.before.before.before in
-    alone worded.requires worded.fault_text.ensures put.put.ensures
+    alone c.requires c.fault_text-line.ensures c.put.ensures

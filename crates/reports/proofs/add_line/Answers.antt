@@ -4,5 +4,4 @@ use Rattle.reports.proofs.add_line.Goals as goal
 
 pub returns : goal.returns
 returns c =
-    let told = c.before.before.before.before.before in
-    line_added _ told.ask-reply.result told.line_of_text.ensures told.ask-reply.ensures told.figures.ensures c.add.ensures c.plus.ensures
+    line_added _ c.ask-reply.result c.line_of_text.ensures c.ask-reply.ensures c.figures-figures.ensures c.add.ensures c.plus.ensures

@@ -21,5 +21,4 @@ loop-line-preserved c = one_added c.loop-line.invariant c.take-told.result c.tak
 
 pub returns-in-Nothing : goal.returns-in-Nothing
 returns-in-Nothing c =
-    let rows = c.before.before.before.before.before in
-    all_taken _ rows.row-hydrogen.ensures rows.row-oxygen.ensures rows.row3.ensures c.report_of.ensures c.loop-line.invariant c.take-told.result c.take-told.ensures c.in-Nothing.is
+    all_taken _ c.row-hydrogen.ensures c.row-oxygen.ensures c.row-nitrogen.ensures c.report_of.ensures c.loop-line.invariant c.take-told.result c.take-told.ensures c.in-Nothing.is

@@ -26,10 +26,8 @@ pub g-requires : goal.g-requires
 g-requires c = (omega arith, omega (arith, c.loop-values.invariant))
 
 -- what a turn knows once g is worked out and found positive
-positive : (c : goal.Else-g-le0) → let turn = c.before.before.before in let start = turn.args in Positive (g start.a start.b turn.loop.z)
-positive c =
-    let turn = c.before.before.before in
-    test_left (omega arith) (omega (arith, turn.loop.invariant)) c.g.ensures c.if-g-le0.false
+positive : (c : goal.Else-g-le0) → Positive (g c.args.a c.args.b c.loop-values.z)
+positive c = test_left (omega arith) (omega (arith, c.loop-values.invariant)) c.g.ensures c.if-g-le0.false
 
 pub overflow_sub-z : goal.overflow_sub-z
 overflow_sub-z c = not_at_end _ _ _ (positive c)
@@ -38,12 +36,9 @@ pub loop-values-smaller : goal.loop-values-smaller
 loop-values-smaller c = omega (arith, overflow_sub-z c)
 
 pub loop-values-preserved : goal.loop-values-preserved
-loop-values-preserved c =
-    let turn = c.before.before.before in
-    goes_on turn.loop.invariant (omega (arith, turn.loop.invariant)) (positive c)
+loop-values-preserved c = goes_on c.loop-values.invariant (omega (arith, c.loop-values.invariant)) (positive c)
 
 pub returns : goal.returns
 returns c =
-    let turn = c.before.before.before in
-    arrives turn.loop.invariant (omega arith) (omega (arith, turn.loop.invariant))
-    (test_taken (omega arith) (omega (arith, turn.loop.invariant)) c.g.ensures c.if-g-le0.true)
+    arrives c.loop-values.invariant (omega arith) (omega (arith, c.loop-values.invariant))
+    (test_taken (omega arith) (omega (arith, c.loop-values.invariant)) c.g.ensures c.if-g-le0.true)

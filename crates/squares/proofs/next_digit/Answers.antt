@@ -1,4 +1,3 @@
-use Prim.Native.Nat.{◌-◌}
 use native.Mathlib.Omega.{arith}
 use Rattle.squares.proofs.Digits.{none_tried, one_too_large, one_fits, all_tried}
 use Rattle.squares.proofs.next_digit.Goals as goal
@@ -12,10 +11,10 @@ loop-tried-preserved c =
     let loop = c.loop-tried in
     let is_product = c.product.ensures in
     elim c.if-left-product.branch [
-      then-left-product w ↦
-        (loop.invariant.0, rw w.digit-is (one_too_large loop.invariant.1 (omega arith) (omega (arith, w.if-left-product.true, is_product))))
-    | else-left-product w ↦
-        (loop.tried, rw w.digit-is (one_fits loop.invariant.1 (omega arith) (omega (arith, w.if-left-product.false, is_product))))
+      | then-left-product w ↦
+          (loop.invariant.0, rw w.digit-is (one_too_large loop.invariant.1 (omega arith) (omega (arith, w.if-left-product.true, is_product))))
+      | else-left-product w ↦
+          (loop.tried, rw w.digit-is (one_fits loop.invariant.1 (omega arith) (omega (arith, w.if-left-product.false, is_product))))
     ]
 
 pub returns : goal.returns

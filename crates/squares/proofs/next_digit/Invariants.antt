@@ -1,6 +1,6 @@
 -- `squares::next_digit` meets its contract. The loop's invariant: the digits below `tried` are counted. The measure is how many are still to
 -- be tried. Assumes nothing.
-use Prim.Native.Nat.{ℕ, ◌-◌}
+use Prim.Native.Nat.{ℕ}
 use Rattle.squares.proofs.Digits.{Counted}
 use Rattle.squares.proofs.next_digit.Given as goal
 

@@ -9,7 +9,7 @@ use Rattle.state.proofs.Answering.{refused, weighty, answered}
 use Rattle.state.proofs.ask_side.Goals as goal
 
 -- what `calls::find` says of an accepted state
-found : (c : goal.In-Roots-2) → let start = c.args in FindsAs (Side start.side) start.fluid start.millikelvin start.pascals (with_value (record { fluid = c.in-Roots.fluid; gas = c.in-Roots.gas; dense = c.in-Roots.dense }))
+found : (c : goal.In-Roots) → let start = c.args in FindsAs (Side start.side) start.fluid start.millikelvin start.pascals (with_value (record { fluid = c.in-Roots.fluid; gas = c.in-Roots.gas; dense = c.in-Roots.dense }))
 found c = rw c.in-Roots.is at c.find.ensures
 
 pub returns-in-Refused : goal.returns-in-Refused
@@ -19,11 +19,10 @@ returns-in-Refused c =
 
 pub returns-in-Roots : goal.returns-in-Roots
 returns-in-Roots c =
-    let state = c.before.before in
+    let state = c.before in
     let start = state.args in
     side_as (λ whole reported. answered _ _ _ (form_checks (Side start.side)) _ (found state) reported) c.answer_side.ensures
 
 pub answer_side-requires : goal.answer_side-requires
 answer_side-requires c =
-    let state = c.before in
-    weighty _ _ _ (form_checks (Side state.args.side)) _ (found state)
+    weighty _ _ _ (form_checks (Side c.args.side)) _ (found c)

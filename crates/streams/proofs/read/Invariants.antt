@@ -6,7 +6,7 @@ use lib.ListN.{length}
 use Rattle.streams.proofs.read.Given as goal
 
 abbrev pub invariant-loop-held : goal.invariant-loop-held
-invariant-loop-held l = (l.held ≤ length l.buffer) × (length l.buffer ≡ length l.initial.buffer)
+invariant-loop-held g l = (l.held ≤ length l.buffer) × (length l.buffer ≡ length l.initial.buffer)
 
 abbrev pub decreases-loop-held : goal.decreases-loop-held
-decreases-loop-held l = l.calls
+decreases-loop-held g l = l.calls

@@ -5,7 +5,7 @@ use lib.ListN.{length}
 use Rattle.streams.proofs.write.Given as goal
 
 abbrev pub invariant-loop-taken : goal.invariant-loop-taken
-invariant-loop-taken l = l.taken ≤ length l.text
+invariant-loop-taken g l = l.taken ≤ length l.text
 
 abbrev pub decreases-loop-taken : goal.decreases-loop-taken
-decreases-loop-taken l = l.calls
+decreases-loop-taken g l = l.calls

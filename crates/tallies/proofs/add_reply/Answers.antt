@@ -8,11 +8,10 @@ use Rattle.tallies.proofs.add_reply.Goals as goal
 
 pub returns : goal.returns
 returns c =
-    let last = c.before.before.before.before.before.before.before in
-    let args = last.args in
+    let args = c.args in
     let section = section_at args.row.now in
     let entry : Entry = record { line = args.line; figures = args.reply } in
     ⊎_elim
-    (λ here. answered_row section entry last.counted-one.ensures last.counted-split.ensures last.counted-temperature_too_low.ensures last.counted-temperature_too_high.ensures last.counted-pressure_too_low.ensures last.counted6.ensures here.0.taken (here.4 ∙ here.1.ensures) (here.5 ∙ here.2.ensures) (here.6 ∙ here.3.ensures))
-    (λ past. refused_row section entry last.counted-one.ensures last.counted-split.ensures last.counted-temperature_too_low.ensures last.counted-temperature_too_high.ensures last.counted-pressure_too_low.ensures last.counted6.ensures past.0.left past.1 past.2 past.3)
+    (λ here. answered_row section entry c.counted-one.ensures c.counted-split.ensures c.counted-temperature_too_low.ensures c.counted-temperature_too_high.ensures c.counted-pressure_too_low.ensures c.counted-pressure_too_high.ensures here.0.taken (here.4 ∙ here.1.ensures) (here.5 ∙ here.2.ensures) (here.6 ∙ here.3.ensures))
+    (λ past. refused_row section entry c.counted-one.ensures c.counted-split.ensures c.counted-temperature_too_low.ensures c.counted-temperature_too_high.ensures c.counted-pressure_too_low.ensures c.counted-pressure_too_high.ensures past.0.left past.1 past.2 past.3)
     c.if-number-eq0.branch

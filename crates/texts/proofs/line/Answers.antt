@@ -8,11 +8,8 @@ use Rattle.texts.proofs.line.Goals as goal
 
 pub returns : goal.returns
 returns c =
-    let ended = c.before in
-    let numbered = ended.before.before.before.before in
-    let worded = numbered.before.before.before in
-    let asked = worded.args in
-    fitted asked.word.now asked.numbers.now (omega arith) (omega arith) (omega arith) worded.put.ensures numbered.put_numbers.ensures ended.put2.ensures refl
+    let asked = c.args in
+    fitted asked.word.now asked.numbers.now (omega arith) (omega arith) (omega arith) c.put-word_end.ensures c.put_numbers-numbers_end.ensures c.put-length.ensures refl
 
 pub returns-then-word-gt-LONGEST_WORD : goal.returns-then-word-gt-LONGEST_WORD
 returns-then-word-gt-LONGEST_WORD c =
@@ -26,8 +23,7 @@ returns-then-numbers-gt-MOST_NUMBERS c =
 
 pub put_numbers-numbers_end-requires : goal.put_numbers-numbers_end-requires
 put_numbers-numbers_end-requires c =
-    let worded = c.before.before in
-    let asked = worded.args in
-    numbers_fit asked.word.now asked.numbers.now (omega arith) (omega arith) (omega arith) worded.put.ensures
+    let asked = c.args in
+    numbers_fit asked.word.now asked.numbers.now (omega arith) (omega arith) (omega arith) c.put-word_end.ensures
 
 -- slice-aggregate-put-3 c = search rules

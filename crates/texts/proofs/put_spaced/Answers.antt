@@ -8,6 +8,4 @@ use Rattle.texts.proofs.put_spaced.Goals as goal
 
 pub returns : goal.returns
 returns c =
-    let spaced = c.before.before.before.before.before.before in
-    let asked = spaced.before.before.before.before in
-    spaced_put asked.args.number asked.requires spaced.put.ensures c.put_number.ensures refl
+    spaced_put c.args.number c.requires c.put-digits.ensures c.put_number.ensures refl

@@ -19,15 +19,12 @@ squared-square-requires c = omega (arith, squares_fit c.args.thousandths (omega 
 
 pub squared-fourth_power-requires : goal.squared-fourth_power-requires
 squared-fourth_power-requires c =
-    let asked = c.before in
-    omega (arith, c.squared-square.ensures, ap squared asked.quartic.ensures, squares_fit asked.args.thousandths (omega arith))
+    omega (arith, c.squared-square.ensures, ap squared c.quartic-y.ensures, squares_fit c.args.thousandths (omega arith))
 
 pub overflow_sub-result : goal.overflow_sub-result
 overflow_sub-result c =
-    let asked = c.before.before in
-    omega (arith, fourth_is_above_one _ asked.quartic.ensures c.squared-square.ensures c.squared-fourth_power.ensures)
+    omega (arith, fourth_is_above_one _ c.quartic-y.ensures c.squared-square.ensures c.squared-fourth_power.ensures)
 
 pub returns : goal.returns
 returns c =
-    let asked = c.before.before in
-    answers _ (omega arith) (factor_of _ asked.quartic.ensures c.squared-square.ensures c.squared-fourth_power.ensures) refl
+    answers _ (omega arith) (factor_of _ c.quartic-y.ensures c.squared-square.ensures c.squared-fourth_power.ensures) refl

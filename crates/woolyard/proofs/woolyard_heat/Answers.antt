@@ -11,10 +11,8 @@ float_to_bits-heat c =
 
 pub returns-in-KilojoulesPerKilogramKelvin : goal.returns-in-KilojoulesPerKilogramKelvin
 returns-in-KilojoulesPerKilogramKelvin c =
-    let called = c.before.before.before in
-    heat_laid _ _ _ _ (KilojoulesPerKilogramKelvin _) c.in-KilojoulesPerKilogramKelvin.is called.before.«ideal-heat-capacity».ensures called.number.ensures
+    heat_laid _ _ _ _ (KilojoulesPerKilogramKelvin _) c.in-KilojoulesPerKilogramKelvin.is c.before.before.before.before.«ideal-heat-capacity».ensures c.number-number.ensures
 
 pub returns-in-OutOfRange : goal.returns-in-OutOfRange
 returns-in-OutOfRange c =
-    let called = c.before.before in
-    heat_laid _ _ _ _ OutOfRange c.in-OutOfRange.is called.before.«ideal-heat-capacity».ensures called.number.ensures
+    heat_laid _ _ _ _ OutOfRange c.in-OutOfRange.is c.before.before.before.«ideal-heat-capacity».ensures c.number-number.ensures

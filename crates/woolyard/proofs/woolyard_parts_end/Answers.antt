@@ -5,5 +5,4 @@ use Rattle.woolyard.proofs.woolyard_parts_end.Goals as goal
 
 pub returns : goal.returns
 returns c =
-    let told = c.before in
-    end_laid told.figures.result told.reader-reader.ensures told.end.ensures told.figures.ensures refl refl
+    end_laid c.figures-told.result c.reader-reader.ensures c.end.ensures c.figures-told.ensures refl refl

@@ -4,14 +4,11 @@ use Rattle.woolyard.proofs.woolyard_parts_take.Goals as goal
 
 pub returns : goal.returns
 returns c =
-    let kept = c.before.before in
-    let numbered = kept.before in
-    let took = numbered.before in
     record {
-      reply = took.take.result;
-      takes = rw (sym took.reader-before.ensures) took.take.ensures;
-      is_number = numbered.number.ensures;
-      is_after = kept.numbers.ensures;
+      reply = c.take-reply.result;
+      takes = rw (sym c.reader-before.ensures) c.take-reply.ensures;
+      is_number = c.number-number.ensures;
+      is_after = c.numbers.ensures;
       is_taken = refl;
       brings = c.lay_line.ensures;
     }

@@ -4,5 +4,4 @@ use Rattle.woolyard.proofs.woolyard_report_end.Goals as goal
 
 pub returns : goal.returns
 returns c =
-    let over = c.before.before.before in
-    end_answers over.args.reporting.now over.reporting-kept.ensures over.end.ensures c.lay_report.ensures
+    end_answers c.args.reporting.now c.reporting-kept.ensures c.end-reply.ensures c.lay_report.ensures

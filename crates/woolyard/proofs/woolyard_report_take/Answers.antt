@@ -4,11 +4,9 @@ use Rattle.woolyard.proofs.woolyard_report_take.Goals as goal
 
 pub returns : goal.returns
 returns c =
-    let kept = c.before in
-    let took = kept.before in
     record {
-      reporting = took.take.result;
-      takes = rw (sym took.reporting-before.ensures) took.take.ensures;
+      reporting = c.take-after.result;
+      takes = rw (sym c.reporting-before.ensures) c.take-after.ensures;
       is_number = c.number.ensures;
-      is_after = kept.kept_rows.ensures;
+      is_after = c.kept_rows-rows.ensures;
     }

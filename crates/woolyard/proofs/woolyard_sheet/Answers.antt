@@ -8,6 +8,4 @@ faulty_line_length-line_length-requires c = c.read-reply.ensures
 
 pub returns : goal.returns
 returns c =
-    let measured = c.before in
-    let told = measured.before in
-    reading_laid _ told.read-reply.result _ _ told.read-reply.ensures told.figures.ensures measured.faulty_line_length.ensures
+    reading_laid _ c.read-reply.result _ _ c.read-reply.ensures c.figures-told.ensures c.faulty_line_length-line_length.ensures

@@ -4,5 +4,4 @@ use Rattle.woolyard.proofs.woolyard_sheet_line.Goals as goal
 
 pub returns : goal.returns
 returns c =
-    let told = c.before in
-    line_laid _ _ told.state_line-reply.result _ told.state_line-reply.ensures told.figures.ensures
+    line_laid _ _ c.state_line-reply.result _ c.state_line-reply.ensures c.figures-told.ensures

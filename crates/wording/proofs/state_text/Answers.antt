@@ -6,20 +6,17 @@ use Rattle.wording.proofs.state_text.Goals as goal
 
 pub returns-then-number-ne0 : goal.returns-then-number-ne0
 returns-then-number-ne0 c =
-    let told = c.before.before.before.before in
-    replied told.ask-reply.result told.ask-reply.ensures told.figures.ensures c.line.ensures
+    replied c.ask-reply.result c.ask-reply.ensures c.figures-figures.ensures c.line.ensures
     (λ text is_text. rw (ne_eqb _ _ c.if-number-ne0.true) is_text)
 
 pub returns-then-kind-eq-ONE : goal.returns-then-kind-eq-ONE
 returns-then-kind-eq-ONE c =
-    let told = c.before.before.before.before.before in
-    replied told.ask-reply.result told.ask-reply.ensures told.figures.ensures c.line-then-kind-eq-ONE.ensures
+    replied c.ask-reply.result c.ask-reply.ensures c.figures-figures.ensures c.line-then-kind-eq-ONE.ensures
     (λ text is_text. rw (eq-eqb _ _ c.if-number-ne0.false, eq-eqb _ _ c.if-kind-eq-ONE.true) is_text)
 
 pub returns : goal.returns
 returns c =
-    let told = c.before.before.before.before.before in
-    replied told.ask-reply.result told.ask-reply.ensures told.figures.ensures c.line-2.ensures
+    replied c.ask-reply.result c.ask-reply.ensures c.figures-figures.ensures c.line-2.ensures
     (λ text is_text. rw (eq-eqb _ _ c.if-number-ne0.false, ne_eqb _ _ c.if-kind-eq-ONE.false) is_text)
 
 -- slice-aggregate-line-4 c = search rules

@@ -36,25 +36,19 @@ put_section-oxygen-requires c =
 
 pub put_section-nitrogen-requires : goal.put_section-nitrogen-requires
 put_section-nitrogen-requires c =
-    let first = c.before.before.before in
-    let told = first.before.before in
-    record { lists = (passes told).sections.1.0; room = second_room (hydrogen told) (oxygen told) (nitrogen told) (begin told).args.buffer.now (passes told).has_room first.put_section.ensures }
+    let told = c.before.before.before.before.before in
+    record { lists = (passes told).sections.1.0; room = second_room (hydrogen told) (oxygen told) (nitrogen told) (begin told).args.buffer.now (passes told).has_room c.put_section.ensures }
 
 pub put_section-requires : goal.put_section-requires
 put_section-requires c =
-    let second = c.before.before.before in
-    let first = second.before.before.before.before in
-    let told = first.before.before in
-    record { lists = (passes told).sections.1.1.0; room = third_room (hydrogen told) (oxygen told) (nitrogen told) (begin told).args.buffer.now (passes told).has_room first.put_section.ensures second.put_section2.ensures }
+    let told = c.before.before.before.before.before.before.before.before.before in
+    record { lists = (passes told).sections.1.1.0; room = third_room (hydrogen told) (oxygen told) (nitrogen told) (begin told).args.buffer.now (passes told).has_room c.put_section.ensures c.put_section-nitrogen.ensures }
 
 pub returns-in-Written : goal.returns-in-Written
 returns-in-Written c =
-    let third = c.before.before in
-    let second = third.before.before.before.before in
-    let first = second.before.before.before.before in
-    let told = first.before.before in
+    let told = c.before.before.before.before.before.before.before.before.before.before.before.before in
     writes_sheet (asked (begin told)) (passes told)
-    (all_put (hydrogen told) (oxygen told) (nitrogen told) (begin told).args.buffer.now (passes told).has_room first.put_section.ensures second.put_section2.ensures third.put_section3.ensures)
+    (all_put (hydrogen told) (oxygen told) (nitrogen told) (begin told).args.buffer.now (passes told).has_room c.put_section.ensures c.put_section-nitrogen.ensures c.put_section.ensures)
 
 pub returns-in-ListsUnfit : goal.returns-in-ListsUnfit
 returns-in-ListsUnfit c = writes_nothing (asked c.before.before.before.before.before.before.before.before.before.before) (λ same. omega arith) (rw c.in-ListsUnfit.is at c.measure-measured.ensures)

@@ -11,21 +11,16 @@ critical_millikelvin-requires c = c.requires.to_hottest
 
 pub temperature_ratio-requires : goal.temperature_ratio-requires
 temperature_ratio-requires c =
-    let start = c.before.before.before in
-    omega (arith, c.critical_millikelvin.ensures, start.requires, hydrogen_spans _ _ (rw c.in-Hydrogen.is at start.requires))
+    omega (arith, c.critical_millikelvin.ensures, c.requires, hydrogen_spans _ _ (rw c.in-Hydrogen.is at c.requires))
 
 pub overflow_cast-critical_pascals : goal.overflow_cast-critical_pascals
 overflow_cast-critical_pascals c =
-    let told = c.before.before.before in
-    omega (arith, c.critical_pascals.ensures, hydrogen_spans _ _ (rw told.in-Hydrogen.is at told.requires))
+    omega (arith, c.critical_pascals.ensures, hydrogen_spans _ _ (rw c.in-Hydrogen.is at c.requires))
 
 pub returns-in-Hydrogen : goal.returns-in-Hydrogen
 returns-in-Hydrogen c =
-    let pressure = c.before in
-    let temperature = pressure.before in
-    let critical = temperature.before in
-    rw critical.in-Hydrogen.is
-    (rw (is_the_quotient c.quotient.ensures, pressure.critical_pascals.ensures, temperature.temperature_ratio.ensures, critical.critical_millikelvin.ensures) refl)
+    rw c.in-Hydrogen.is
+    (rw (is_the_quotient c.quotient.ensures, c.critical_pascals.ensures, c.temperature_ratio.ensures, c.critical_millikelvin.ensures) refl)
 
 pub returns-in-Oxygen : goal.returns-in-Oxygen
 returns-in-Oxygen c =

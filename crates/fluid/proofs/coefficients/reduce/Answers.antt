@@ -8,7 +8,6 @@ use Rattle.refusals.specs.Checks.{Outcome, FirstOf}
 use Rattle.refusals.proofs.Lists.{first_front}
 use Rattle.fluid.specs.declared.choice.Fluid.{Fluid}
 use Rattle.fluid.specs.declared.choice.Numbered.{Numbered}
-use Rattle.fluid.specs.declared.choice.Numbered.TheVariants as Numbered
 use Rattle.fluid.specs.Figures.{number_of}
 use Rattle.fluid.specs.Checks.{fluid_checks, range_checks, state_checks}
 use Rattle.fluid.specs.Promise.{numbered, Numbers, Reached, ReducesTo}

@@ -71,15 +71,14 @@ nonzero_div-b c = omega (arith, found c)
 
 pub returns : goal.returns
 returns c =
-    let ratios = c.before in
-    let start = ratios.args in (
-      passes start.fluid refl _ _ (accepted ratios.before),
+    let start = c.args in (
+      passes start.fluid refl _ _ (accepted c.before.before),
       record {
         is_number = refl;
         reduces =
             record {
-              is_t = ap (λ (r : Ratios). r.t) ratios.ratios_of.ensures;
-              is_p = ap (λ (r : Ratios). r.p) ratios.ratios_of.ensures;
+              is_t = ap (λ (r : Ratios). r.t) c.ratios_of-ratios.ensures;
+              is_p = ap (λ (r : Ratios). r.p) c.ratios_of-ratios.ensures;
               is_s = c.square_root-s.ensures;
               is_a = refl;
               is_b = refl;

@@ -14,33 +14,25 @@ row_for kelvin range holds = record { range = range; holds = holds; is_row = ref
 pub returns-then-kelvin : goal.returns-then-kelvin
 unfolding of_bits
 returns-then-kelvin c =
-    let called = c.before.before in
-    let start = called.before in
-    let to = at_most 40 _ start.args.kelvin (tt, refl, refl) start.requires c.if-kelvin.true in
-    rw called.table_4.ensures (row_for start.args.kelvin up_to_40 to)
+    let to = at_most 40 _ c.args.kelvin (tt, refl, refl) c.requires c.if-kelvin.true in
+    rw c.table_4-rows.ensures (row_for c.args.kelvin up_to_40 to)
 
 pub returns-then-kelvin-2 : goal.returns-then-kelvin-2
 unfolding of_bits
 returns-then-kelvin-2 c =
-    let called = c.before.before.before in
-    let start = called.before in
-    let from = above 40 _ start.args.kelvin (tt, refl, refl) start.requires c.if-kelvin.false in
-    let to = at_most 150 _ start.args.kelvin (tt, refl, refl) start.requires c.if-kelvin-2.true in
-    rw called.table_4.ensures (row_for start.args.kelvin up_to_150 (from, to))
+    let from = above 40 _ c.args.kelvin (tt, refl, refl) c.requires c.if-kelvin.false in
+    let to = at_most 150 _ c.args.kelvin (tt, refl, refl) c.requires c.if-kelvin-2.true in
+    rw c.table_4-rows.ensures (row_for c.args.kelvin up_to_150 (from, to))
 
 pub returns-then-kelvin-3 : goal.returns-then-kelvin-3
 unfolding of_bits
 returns-then-kelvin-3 c =
-    let called = c.before.before.before.before in
-    let start = called.before in
-    let from = above 150 _ start.args.kelvin (tt, refl, refl) start.requires c.if-kelvin-2.false in
-    let to = at_most 500 _ start.args.kelvin (tt, refl, refl) start.requires c.if-kelvin-3.true in
-    rw called.table_4.ensures (row_for start.args.kelvin up_to_500 (from, to))
+    let from = above 150 _ c.args.kelvin (tt, refl, refl) c.requires c.if-kelvin-2.false in
+    let to = at_most 500 _ c.args.kelvin (tt, refl, refl) c.requires c.if-kelvin-3.true in
+    rw c.table_4-rows.ensures (row_for c.args.kelvin up_to_500 (from, to))
 
 pub returns : goal.returns
 unfolding of_bits
 returns c =
-    let called = c.before.before.before.before in
-    let start = called.before in
-    let from = above 500 _ start.args.kelvin (tt, refl, refl) start.requires c.if-kelvin-3.false in
-    rw called.table_4.ensures (row_for start.args.kelvin above_500 from)
+    let from = above 500 _ c.args.kelvin (tt, refl, refl) c.requires c.if-kelvin-3.false in
+    rw c.table_4-rows.ensures (row_for c.args.kelvin above_500 from)

@@ -42,10 +42,9 @@ less c = omega arith
 -- Before the sums that lead to it, so that another place is refused here.
 pub returns : goal.returns
 returns c =
-    let ended = c.before.before.before in
-    let asked = ended.before.before.before.before in
+    let asked = c.before.before.before.before.before.before.before in
     let s = scanned asked in
-    line_ends _ _ _ (begin s).pre _ s.scan.ensures (wants asked) (below asked) (few ended.before) (short ended.before) ended.if7.false (less c.before.before) _
+    line_ends _ _ _ (begin s).pre _ s.scan.ensures (wants asked) (below asked) (few c.before.before.before.before) (short c.before.before.before.before) c.if-next-end.false (less c.before.before) _
     (c.behind.ensures ∙ ap (λ (met : Line). behind_of met (begin s).args.standing.state_lines s.scan.result.next) c.ended_line-met.ensures)
 
 pub overflow_sub-text : goal.overflow_sub-text
@@ -63,9 +62,8 @@ returns-then-place-held c =
 
 pub returns-then-not-wants_line : goal.returns-then-not-wants_line
 returns-then-not-wants_line c =
-    let told = c.before.before in
-    let s = told.before.before.before in
-    let none = sym told.wants_line.ensures ∙ not-true _ c.if-not-wants_line.true in
+    let s = c.before.before.before.before.before in
+    let none = sym c.wants_line.ensures ∙ not-true _ c.if-not-wants_line.true in
     rw c.nothing-then-not-wants_line.ensures (stops_at_first _ _ _ (begin s).requires _ s.scan.ensures (Malformed _) tt (λ byte. not_wanted (begin s).args.standing byte (omega arith) none))
 
 pub overflow_sub-room : goal.overflow_sub-room
@@ -76,19 +74,16 @@ overflow_sub-room-2 c = omega arith
 
 pub returns-then-spare-room : goal.returns-then-spare-room
 returns-then-spare-room c =
-    let spared = c.before.before.before in
-    let s = scanned spared.before in
+    let s = scanned c.before.before.before.before in
     rw c.nothing-then-spare-room.ensures
-    (too_many _ _ _ (begin s).pre _ s.scan.ensures (wants spared.before) (omega (arith, spared.spare.ensures)) (omega (arith, spared.spare.ensures)))
+    (too_many _ _ _ (begin s).pre _ s.scan.ensures (wants c.before.before.before.before) (omega (arith, c.spare-spare.ensures)) (omega (arith, c.spare-spare.ensures)))
 
 pub returns-then-room-text : goal.returns-then-room-text
 returns-then-room-text c =
-    let joined = c.before.before in
-    let spared = joined.before in
-    let s = scanned spared.before in
+    let s = scanned c.before.before.before.before in
     rw c.nothing-then-room-text.ensures
-    (too_long _ _ _ (begin s).pre _ s.scan.ensures (wants spared.before) (omega arith)
-    (⊎_elim (λ many. omega (arith, spared.spare.ensures, many.1.left)) (λ less. omega (arith, spared.spare.ensures, less.left)) joined.if4.branch))
+    (too_long _ _ _ (begin s).pre _ s.scan.ensures (wants c.before.before.before.before) (omega arith)
+    (⊎_elim (λ many. omega (arith, c.spare-spare.ensures, many.1.left)) (λ less. omega (arith, c.spare-spare.ensures, less.left)) c.if-spare-text.branch))
 
 pub overflow_add-held : goal.overflow_add-held
 overflow_add-held c = omega arith
@@ -102,11 +97,10 @@ returns-then-next-end c =
 
 pub returns-then-room-text-2 : goal.returns-then-room-text-2
 returns-then-room-text-2 c =
-    let ended = c.before.before in
-    let asked = ended.before.before.before.before in
+    let asked = c.before.before.before.before.before.before in
     let s = scanned asked in
     rw c.nothing-then-room-text-2.ensures
-    (end_too_long _ _ _ (begin s).pre _ s.scan.ensures (wants asked) (below asked) (few ended.before) (short ended.before) ended.if7.false (full c.before))
+    (end_too_long _ _ _ (begin s).pre _ s.scan.ensures (wants asked) (below asked) (few c.before.before.before) (short c.before.before.before) c.if-next-end.false (full c.before))
 
 pub overflow_add-place : goal.overflow_add-place
 overflow_add-place c = omega arith

@@ -1,5 +1,5 @@
 use mathlib.Core.Path.{◌≡◌}
-use Prim.Native.Nat.{ℕ, ◌+◌, ◌-◌, ◌≤◌}
+use Prim.Native.Nat.{ℕ, ◌+◌, ◌≤◌}
 use native.Mathlib.Nat.{pos_of_ne-zero}
 use native.Mathlib.Omega.{arith}
 use Rattle.cubic.specs.Sides.{NotPositiveTo}
@@ -36,12 +36,8 @@ overflow_sub-room c = below c
 
 -- a turn's values, once they are all worked out
 turn : {room : ℕ} (c : goal.After-plus) → c.plus.result + room ≡ c.minus.result →
-    let rising = c.before.before.before in
-    let start = rising.before.before.before in
-    Climbing start.args.a start.args.b rising.loop-a.low room rising.rise.result
-turn c is_room =
-    let rising = c.before.before.before in
-    record { is_room = omega arith; is_slope = rising.rise.ensures; begins = rising.loop-a.invariant }
+    Climbing c.args.a c.args.b c.loop-a.low room c.rise-slope.result
+turn c is_room = record { is_room = omega arith; is_slope = c.rise-slope.ensures; begins = c.loop-a.invariant }
 
 pub returns-then-room-slope : goal.returns-then-room-slope
 returns-then-room-slope c = climb_finds c.if-room-slope.true (turn c.before (omega (arith, below c.before)))

@@ -33,13 +33,11 @@ overflow_sub-high-in-loop-a c = omega arith
 
 pub place_at-place-requires : goal.place_at-place-requires
 place_at-place-requires c =
-    let turn = c.before.before.before in
-    (turn.requires, fall_goes_on c.if-high-jump.false turn.loop.invariant)
+    (c.requires, fall_goes_on c.if-high-jump.false c.loop-a.invariant)
 
 pub loop-a-smaller : goal.loop-a-smaller
 loop-a-smaller c =
-    let near = c.before.before in
-    omega (arith, c.place_at-place.ensures.0, c.if-high-jump.false, moves near.if-slope-eq0.false near.if2.false)
+    omega (arith, c.place_at-place.ensures.high_value, c.if-high-jump.false, moves c.if-slope-eq0.false c.if-room-slope.false)
 
 pub loop-a-preserved : goal.loop-a-preserved
-loop-a-preserved c = c.place_at-place.ensures.1
+loop-a-preserved c = c.place_at-place.ensures.falling

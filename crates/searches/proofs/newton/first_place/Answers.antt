@@ -40,19 +40,16 @@ pub overflow_sub-room-else-above-below : goal.overflow_sub-room-else-above-below
 overflow_sub-room-else-above-below c = omega arith
 
 pub returns-then-slope-eq0 : goal.returns-then-slope-eq0
-returns-then-slope-eq0 c = c.place_at.ensures.1
+returns-then-slope-eq0 c = c.place_at.ensures.falling
 
 pub returns-then-above-below : goal.returns-then-above-below
-returns-then-above-below c = c.place_at-then-above-below.ensures.1
+returns-then-above-below c = c.place_at-then-above-below.ensures.falling
 
 pub returns-else-above-below : goal.returns-else-above-below
 returns-else-above-below c =
-    let worked = c.before.before in
-    let rising = worked.before.before in
-    let guess = rising.nearer-guess in
-    let known = guessed rising.before in
+    let known : GasSide c.args.b c.nearer-guess.result = c.nearer-guess.ensures c.requires in
     record {
       is_room = omega arith;
-      is_slope = slope_below _ _ guess.result rising.rise.ensures;
-      begins = from_start _ _ _ known.from_bend (omega (arith, known)) rising.rise.ensures (pos_of_ne-zero c.if-slope-eq0.false) (omega arith);
+      is_slope = slope_below _ _ c.nearer-guess.result c.rise-slope.ensures;
+      begins = from_start _ _ _ known.from_bend (omega (arith, known)) c.rise-slope.ensures (pos_of_ne-zero c.if-slope-eq0.false) (omega arith);
     }

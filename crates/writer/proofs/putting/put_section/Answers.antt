@@ -8,15 +8,11 @@ use Rattle.writer.proofs.putting.put_section.Goals as goal
 
 pub returns : goal.returns
 returns c =
-    let ended = c.before.before.before.before in
-    let counted = ended.before.before.before.before.before in
-    section_put counted.requires counted.put_number.ensures ended.put.ensures refl refl (all_written c.loop-taken.invariant (omega arith))
+    section_put c.requires c.put_number-count_end.ensures c.put-end.ensures refl refl (all_written c.loop-taken.invariant (omega arith))
 
 pub loop-taken-init : goal.loop-taken-init
 loop-taken-init c =
-    let ended = c.before.before in
-    let counted = ended.before.before.before.before.before in
-    begins counted.requires counted.put_number.ensures ended.put.ensures refl refl
+    begins c.requires c.put_number-count_end.ensures c.put-end.ensures refl refl
 
 pub loop-taken-preserved : goal.loop-taken-preserved
 loop-taken-preserved c = state_written c.loop-taken.invariant (omega arith) c.put_state-end.ensures

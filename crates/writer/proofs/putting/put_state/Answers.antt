@@ -10,8 +10,4 @@ use Rattle.writer.proofs.putting.put_state.Goals as goal
 
 pub returns : goal.returns
 returns c =
-    let ended = c.before.before in
-    let pressed = ended.before.before.before.before.before in
-    let spaced = pressed.before.before.before.before in
-    let heated = spaced.before.before.before.before.before in
-    state_put heated.requires heated.put_number.ensures spaced.put.ensures pressed.put_number2.ensures ended.put2.ensures refl refl
+    state_put c.requires c.put_number-temperature_end.ensures c.put.ensures c.put_number-pressure_end.ensures c.put.ensures refl refl
