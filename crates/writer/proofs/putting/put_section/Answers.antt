@@ -15,25 +15,8 @@ loop-taken-init c =
 pub loop-taken-preserved : goal.loop-taken-preserved
 loop-taken-preserved c = state_written c.loop-taken.invariant (omega arith) c.put_state-end.ensures
 
--- slice-aggregate-put c = search rules
-
-pub offset_bounds-millikelvin-taken : goal.offset_bounds-millikelvin-taken
-offset_bounds-millikelvin-taken c = omega arith
-
-pub bounds-millikelvin-taken : goal.bounds-millikelvin-taken
-bounds-millikelvin-taken c = omega arith
-
-pub offset_bounds-pascals-taken : goal.offset_bounds-pascals-taken
-offset_bounds-pascals-taken c = omega arith
-
-pub bounds-pascals-taken : goal.bounds-pascals-taken
-bounds-pascals-taken c = omega arith
-
 pub put_state-end-requires : goal.put_state-end-requires
 put_state-end-requires c = state_fits c.loop-taken.invariant (omega arith)
-
-pub overflow_step-taken : goal.overflow_step-taken
-overflow_step-taken c = omega arith
 
 pub shape_of-buffer : goal.shape_of-buffer
 shape_of-buffer c = omega (arith, buffer_long c.loop-taken.invariant.underway)
