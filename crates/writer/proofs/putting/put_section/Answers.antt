@@ -1,7 +1,5 @@
 use mathlib.Core.Path.{refl}
-use Prim.Native.Nat.{◌-◌}
 use native.Mathlib.Omega.{arith}
-use borrow.Author.Rules.{rules}
 use Rattle.buffers.proofs.Underway.{buffer_long}
 use Rattle.writer.proofs.Lines.{state_fits, state_written, all_written, begins, section_put}
 use Rattle.writer.proofs.putting.put_section.Goals as goal
