@@ -32,8 +32,8 @@ returns-then-room-slope c = climb_finds c.if-room-slope.true (turn c.loop-a.inva
 
 pub returns-then-low-jump : goal.returns-then-low-jump
 returns-then-low-jump c =
-    climb_misses (jump c.if-low-jump.true) (turn c.loop-a.invariant c.plus.ensures c.minus.ensures c.rise-slope.ensures)
+    climb_misses (jump (omega arith)) (turn c.loop-a.invariant c.plus.ensures c.minus.ensures c.rise-slope.ensures)
 
 pub loop-a-preserved : goal.loop-a-preserved
 loop-a-preserved c =
-    climb_goes_on c.if-low-jump.false (turn c.loop-a.invariant c.plus.ensures c.minus.ensures c.rise-slope.ensures)
+    climb_goes_on (omega arith) (turn c.loop-a.invariant c.plus.ensures c.minus.ensures c.rise-slope.ensures)
