@@ -5,7 +5,7 @@ use Prim.Native.Nat.{ℕ, ◌+◌, ◌-◌, ◌≤◌}
 use native.Mathlib.Nat.{add-zero}
 use native.Mathlib.Omega.{arith}
 use lib.ListN.{length, take, drop, length-append, length-drop, take-append-drop}
-use lib.Seq.{length-take-le, take-length, take_at, drop-append-le, drop-append-add, drop-drop}
+use lib.Seq.{length-take-le, take_at, drop-append-add, drop-drop}
 use Rattle.buffers.specs.Puts.{holding, Holds, Puts, has_room, no_room}
 
 pub puts_same : {text same before : List ℕ} {at : ℕ} {after : List ℕ} {next : ℕ} → text ≡ same → Puts text before at after next → Puts same before at after next
@@ -16,30 +16,11 @@ pub put_with_room : {text before : List ℕ} {at : ℕ} {after : List ℕ} {next
 put_with_room (has_room room holds) fits = holds
 put_with_room (no_room none same stays) fits = absurd (omega arith)
 
--- a text copied to the start of the part of the buffer from the place on
-pub holding_copied : (text before part : List ℕ) (at : ℕ) → at + length text ≤ length before → part ≡ take (length text) text ++ drop (length text) (take (length before - at) (drop at before)) → take at before ++ (part ++ drop (length before - at) (drop at before)) ≡ holding text before at
-holding_copied text before part at fits is_part = ap (λ (l : List ℕ). take at before ++ l) (copied ∙ ap (λ (l : List ℕ). text ++ l) kept)
-  where
-    lent : List ℕ
-    lent = take (length before - at) (drop at before)
-
-    behind : List ℕ
-    behind = drop (length before - at) (drop at before)
-
-    copied : part ++ behind ≡ text ++ (drop (length text) lent ++ behind)
-    copied =
-        ap (λ (l : List ℕ). l ++ behind) is_part
-        ∙ append_assoc (take (length text) text) (drop (length text) lent) behind
-        ∙ ap (λ (l : List ℕ). l ++ (drop (length text) lent ++ behind)) (take-length text)
-
-    enough : length text ≤ length lent
-    enough = omega (arith, length-take-le (length before - at) (drop at before) (omega (arith, length-drop at before)))
-
-    kept : drop (length text) lent ++ behind ≡ drop (at + length text) before
-    kept =
-        sym (drop-append-le (length text) lent behind enough)
-        ∙ ap (drop (length text)) (take-append-drop (length before - at) (drop at before))
-        ∙ drop-drop (length text) at before
+-- a text copied to the part of the buffer that is as long as it
+pub holding_copied : (text before part : List ℕ) (at : ℕ) → part ≡ text → take at before ++ (part ++ drop (at + length text - at) (drop at before)) ≡ holding text before at
+holding_copied text before part at is_part =
+    let long : at + (at + length text - at) ≡ at + length text = omega arith in
+    ap₂ (λ (l m : List ℕ). take at before ++ (l ++ m)) is_part (drop-drop (at + length text - at) at before ∙ ap (λ (n : ℕ). drop n before) long)
 
 -- nothing changes where nothing is put
 pub holds_nothing : (before : List ℕ) (at : ℕ) → Holds [] before at before at

@@ -1,6 +1,8 @@
 // Texts put into a lent buffer, one behind another: bytes as they are, and numbers in decimal. A text that
 // has room from a place on is written there, and where it has none nothing is written; what lies before it and
 // behind it stays as it was.
+#![tactic(auto)]
+
 ghost use Rattle.sheets.specs.Grammar.{digits};
 ghost use Rattle.buffers.specs.Puts.{most_digits, Puts};
 

@@ -1,5 +1,6 @@
 // The Redlich-Kwong cubic of docs/RULES.md: its definitions (specs/) and the laws about them (proofs/). Of
 // code it has what every engine shares, the constants: the engines find what is proved here proved.
+#![tactic(auto)]
 
 // The grid N of the rules, and the place a third up at which g bends.
 pub const GRID: u64 = 100_000;

@@ -1,5 +1,7 @@
 // Whole numbers out of doubles, for guesses that are tested before they are used: nothing is promised of one
 // but that 32 bits hold it, and no law about floating point is needed.
+#![tactic(auto)]
+
 ghost use Rattle.std.specs.Prelude.{◌^◌, ◌<◌};
 
 // A double from 2^52 on has no room for a fraction, so a sum with this has the whole part of what it is added to

@@ -1,5 +1,7 @@
 // Where a search may begin. A guess is tested before it is used, so nothing is promised of it but that it
 // lies on the search's side of the bend: another formula would change a time and no answer.
+#![tactic(auto)]
+
 mod steps;
 
 ghost use Rattle.std.specs.Prelude.{◌<◌};

@@ -4,4 +4,5 @@ pub mod Numbers
 pub mod Sections
 pub mod Lengths
 pub mod Telling
+pub mod Measured
 pub mod Theorems

@@ -10,7 +10,7 @@ const MOST_NUMBER: u64 = 9_999_999_999;
 
 // Whether a fluid's two lists are too long or of unequal lengths.
 fn unfit(millikelvin: &[u64], pascals: &[u64]) -> bool
-    ensures { Decides (Unfit (record { millikelvin = millikelvin.entry.now; pascals = pascals.now })) result }
+    ensures { Decides (Unfit (record { millikelvin = millikelvin.now; pascals = pascals.now })) result }
 {
     if MOST_STATES < millikelvin.len() as u64 {
         return true;

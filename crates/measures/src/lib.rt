@@ -1,5 +1,7 @@
 // What lists come to before a sheet is written from them (docs/RULES.md, "A sheet written"): whether they
 // may stand in one, and how long it is. No buffer is lent to it, so nothing is written before a refusal.
+#![tactic(auto)]
+
 mod fits;
 mod reply;
 mod sizes;

@@ -1,5 +1,7 @@
 // The crossings of the cubic on either side of the bend: at most one from the bend on, which a search from
 // above finds, and at most one below it, which a search from below finds.
+#![tactic(auto)]
+
 mod newton;
 mod sides;
 mod starts;

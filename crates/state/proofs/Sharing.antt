@@ -92,14 +92,14 @@ module _ {layout layout' : Layout} {call : Call} {book other : List ℕ} {answer
 module _ {layout layout' : Layout} (holds : Holds layout) (holds' : Holds layout') where
   pub answers_once : {book other : List ℕ} → BothOrNeither layout layout' book other → (calls : List Call) (got others : Answers calls) (after after' : List ℕ) → Shared layout book calls got after → Shared layout' other calls others after' → got ≡ others
   answers_once alike [] got others after after' p q = refl
-  answers_once alike (call ∷ calls) (one, got) (other_one, others) after after' (gets, p) (gets', q) =
+  answers_once {book = book} {other = other} alike (call ∷ calls) (one, got) (other_one, others) after after' (gets, p) (gets', q) =
       ap₂ (λ (first : AnswerTo call.form) (rest : Answers calls). (first, rest)) (one_answer alike gets gets')
-      (answers_once (alike_afterwards gets.called alike gets'.called holds holds') calls got others after after' p q)
+      (answers_once {book = gets.after} {other = gets'.after} (alike_afterwards gets.called alike gets'.called holds holds') calls got others after after' p q)
 
   pub numbers_once : {book other : List ℕ} → BothOrNeither layout layout' book other → SameNumbers layout layout' book other → (calls : List Call) (got others : Answers calls) (after after' : List ℕ) → Shared layout book calls got after → Shared layout' other calls others after' → SameNumbers layout layout' after after'
   numbers_once alike same [] got others after after' p q = rw (p, q) same
-  numbers_once alike same (call ∷ calls) got others after after' (gets, p) (gets', q) =
-      numbers_once (alike_afterwards gets.called alike gets'.called holds holds') (same_numbers_after gets.called alike gets'.called holds holds' same) calls got.1 others.1 after after' p q
+  numbers_once {book = book} {other = other} alike same (call ∷ calls) got others after after' (gets, p) (gets', q) =
+      numbers_once {book = gets.after} {other = gets'.after} (alike_afterwards gets.called alike gets'.called holds holds') (same_numbers_after gets.called alike gets'.called holds holds' same) calls got.1 others.1 after after' p q
 
 pub shared_gets_alone : {layout layout' : Layout} → Holds layout → {book own : List ℕ} → BothOrNeither layout layout' book own → (calls : List Call) (got : Answers calls) (after : List ℕ) → Shared layout book calls got after → Alone layout' own calls got
 shared_gets_alone holds alike [] got after shared = tt

@@ -1,8 +1,14 @@
 // What a program reads and writes: a call that fails is told, one that a signal interrupted is made again, and one that
 // moves a part of the bytes is followed by another.
-ghost use Rattle.std.specs.Prelude.{◌≡◌};
+#![tactic(auto)]
+
+ghost use Rattle.std.specs.Prelude.{◌≡◌, ◌<◌, ◌^◌, ◌↔◌, IfOk, IsErrAnd, IsTrue};
+ghost use Rattle.std.specs.IoError.{error_kind};
 ghost use Rattle.io.specs.Counts.{IsPrefixLen};
-ghost use Rattle.streams.specs.Streams.{call_of, NothingOfAFailure};
+ghost use Rattle.streams.specs.Streams.{call_of, got_of, NothingOfAFailure};
+
+use std::io;
+use std::io::{Cursor, Eprint, ErrorKind, Read, Write};
 
 // What one call came to: it moved so many bytes, or none, as at the end of an input; a signal came first;
 // or it can't.
@@ -29,6 +35,22 @@ const FAILED_INPUT: Input = Input {
     held: 0,
 };
 
+// Room for the system's words for any error.
+const ROOM: usize = 256;
+
+// What std tells of a call as C's call answered it: a count, or a number below 0, and whether errno then said that a
+// signal came.
+fn answered(answer: &io::Result<usize>) -> (isize, bool)
+    requires { IfOk answer.now (λ count. count < 2 ^ 63) }
+    ensures got { result.0 ≡ got_of answer.now }
+    ensures interrupted { IsTrue result.1 ↔ IsErrAnd answer.now (λ why. error_kind why ≡ ErrorKind.Interrupted) }
+{
+    match answer {
+        Ok(count) => (*count as isize, false),
+        Err(why) => (-1, why.kind() == ErrorKind::Interrupted),
+    }
+}
+
 // Of a call that was lent `most` bytes and answered `got`, where C's errno then says that a signal came, or not.
 fn came_to(got: isize, interrupted: bool, most: usize) -> Call
     ensures { result ≡ call_of got interrupted most }
@@ -48,10 +70,11 @@ fn came_to(got: isize, interrupted: bool, most: usize) -> Call
     Call::Bytes(got as usize)
 }
 
-// Reads until the buffer is full or the input ends.
-pub fn read(file: i32, buffer: &mut [u8]) -> Input
+// Reads until the buffer is full or the input ends. `why` is set where the reading failed.
+#[tactic(auto, using(crate::proofs::Calls::lent))]
+pub fn read<R: Read>(input: &mut R, buffer: &mut [u8], why: &mut Option<io::Error>) -> Input
     ensures prefix_len { IsPrefixLen result.held buffer.new }
-    ensures nothing_of_afailure { NothingOfAFailure result }
+    ensures nothing_of_a_failure { NothingOfAFailure result }
 {
     let mut held = 0;
     let mut calls = MOST_CALLS;
@@ -61,8 +84,8 @@ pub fn read(file: i32, buffer: &mut [u8]) -> Input
         }
         calls -= 1;
         let room = buffer.len() - held;
-        let got = libc::read(file, &mut buffer[held..]);
-        let interrupted = os::errno() == libc::EINTR;
+        let answer = input.read(&mut buffer[held..]);
+        let (got, interrupted) = answered(&answer);
         match came_to(got, interrupted, room) {
             Call::Bytes(more) => {
                 held += more;
@@ -72,6 +95,7 @@ pub fn read(file: i32, buffer: &mut [u8]) -> Input
             }
             Call::Interrupted => {}
             Call::Failed => {
+                *why = answer.err();
                 return FAILED_INPUT;
             }
         }
@@ -82,8 +106,10 @@ pub fn read(file: i32, buffer: &mut [u8]) -> Input
     }
 }
 
-// Writes all of the text, and answers how many of its bytes the system took: all of them, unless it failed.
-pub fn write(file: i32, text: &[u8]) -> usize
+// Writes all of the text, and answers how many of its bytes the system took: all of them, unless it failed. `why`
+// is set where a call did.
+#[tactic(auto, using(crate::proofs::Calls::lent))]
+pub fn write<W: Write>(output: &mut W, text: &[u8], why: &mut Option<io::Error>) -> usize
     ensures { IsPrefixLen result text.now }
 {
     let mut taken = 0;
@@ -94,8 +120,8 @@ pub fn write(file: i32, text: &[u8]) -> usize
         }
         calls -= 1;
         let left = text.len() - taken;
-        let got = libc::write(file, &text[taken..]);
-        let interrupted = os::errno() == libc::EINTR;
+        let answer = output.write(&text[taken..]);
+        let (got, interrupted) = answered(&answer);
         match came_to(got, interrupted, left) {
             Call::Bytes(more) => {
                 taken += more;
@@ -105,9 +131,32 @@ pub fn write(file: i32, text: &[u8]) -> usize
             }
             Call::Interrupted => {}
             Call::Failed => {
+                *why = answer.err();
                 return taken;
             }
         }
     }
     taken
+}
+
+// Tells in a line on standard error what failed, and why in the system's words, without the error's number.
+pub fn tell<R: Eprint>(rt: &R, what: &str, why: &Option<io::Error>) -> io::Result<()> {
+    match why {
+        Some(why) => tell_why(rt, what, why),
+        None => eprintln!(rt; "{what}"),
+    }
+}
+
+fn tell_why<R: Eprint>(rt: &R, what: &str, why: &io::Error) -> io::Result<()> {
+    let mut cursor = Cursor::new([0u8; ROOM]);
+    write!(cursor, "{why}")?;
+    let end = (cursor.position() as usize).min(ROOM);
+    let room = cursor.into_inner();
+    match std::str::from_utf8(&room[..end]) {
+        Ok(text) => match text.rsplit_once(" (os error ") {
+            Some((words, _)) => eprintln!(rt; "{what}: {words}"),
+            None => eprintln!(rt; "{what}: {text}"),
+        },
+        Err(_) => eprintln!(rt; "{what}"),
+    }
 }

@@ -1,22 +1,15 @@
 -- `buffers::put` meets its contract: the part of the buffer from the place on begins with the text. Assumes nothing.
-use mathlib.Core.Path.{refl, ap}
-use Prim.Native.Nat.{ℕ, ◌+◌}
+use mathlib.Core.Path.{refl}
 use native.Mathlib.Omega.{arith}
-use Rattle.buffers.specs.Puts.{has_room, no_room}
+use Rattle.buffers.specs.Puts.{has_room}
 use Rattle.buffers.proofs.Holding.{holding_copied}
 use Rattle.buffers.proofs.put.Goals as goal
-
-pub returns-then-buffer-at : goal.returns-then-buffer-at
-returns-then-buffer-at c = no_room (omega arith) refl refl
-
-pub returns-then-buffer-at-2 : goal.returns-then-buffer-at-2
-returns-then-buffer-at-2 c = no_room (omega arith) refl refl
 
 pub returns : goal.returns
 returns c =
     let asked = c.args in
     has_room (omega arith)
     (record {
-      is_after = holding_copied asked.text.now asked.buffer.now c.copy.new.1.0 asked.at (omega arith) c.copy.ensures.1;
-      reaches = ap (λ (n : ℕ). asked.at + n) c.copy.ensures.0;
+      is_after = holding_copied asked.text.now asked.buffer.now c.copy_from_slice.new.self asked.at c.copy_from_slice.ensures.after;
+      reaches = refl;
     })

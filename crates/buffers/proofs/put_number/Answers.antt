@@ -7,10 +7,7 @@ use Rattle.buffers.proofs.Digits.{no_more_digits, toolchain_digits}
 use Rattle.buffers.proofs.Holding.{puts_same}
 use Rattle.buffers.proofs.put_number.Goals as goal
 
-few : (c : goal.After-decimal-count) → c.decimal-count.result ≤ most_digits
-few c = no_more_digits c.args.number _ most_digits c.decimal-count.ensures.1.0 (omega arith) (omega arith)
-
 pub returns : goal.returns
 returns c =
-    let made = c.before.before.before.before.before in
-    puts_same (made.decimal.ensures.1.1 ∙ toolchain_digits _ most_digits _ made.decimal.ensures.1.0 (few made)) c.put.ensures
+    let few : c.decimal-count.result ≤ most_digits = no_more_digits c.args.number _ most_digits c.decimal-count.ensures.len (omega arith) (omega arith) in
+    puts_same (c.decimal-count.ensures.digits ∙ toolchain_digits _ most_digits _ c.decimal-count.ensures.len few) c.put.ensures

@@ -1,25 +1,21 @@
 use mathlib.Core.Path.{◌≡◌, refl}
-use Prim.Native.Nat.{ℕ, ◌+◌, ◌-◌, ◌≤◌, ◌<◌}
+use Prim.Native.Nat.{ℕ, ◌+◌, ◌≤◌, ◌<◌}
 use native.Mathlib.Numerals.{add-one}
 use native.Mathlib.Omega.{arith}
 use borrow.Author.Rules.{rules}
 use Rattle.refusals.specs.declared.Refusal.{Refusal}
 use Rattle.claims.specs.declared.reply.ClaimsReply.TheVariants.{AllStand, Refused}
 use Rattle.claims.specs.declared.judging.Verdict.{Verdict}
-use Rattle.claims.specs.declared.judging.Verdict.TheVariants as Verdict
-use Rattle.claims.specs.Lists.{FiveLists, claim_at, StandBefore}
+use Rattle.claims.specs.Lists.{FiveLists, claim_at}
 use Rattle.claims.specs.Replies.{figures_of, Checked, all_stand, one_refused}
 use Rattle.claims.specs.Inside.{Judges, HasEach}
 use Rattle.claims.proofs.Lists.{none_before, one_more}
+use Rattle.claims.proofs.check_first.Invariants.{Passed}
 use Rattle.claims.proofs.check_first.Goals as goal
-
-record Passed (lists : FiveLists) (claims claim : ℕ) : Type 0 where
-  has_each : HasEach lists claims
-  within : claim ≤ claims
-  before : StandBefore lists claim
 
 begins : {lists : FiveLists} {claims : ℕ} → HasEach lists claims → Passed lists claims 0
 begins has_each = record { has_each = has_each; within = omega arith; before = none_before }
+
 module _ {lists : FiveLists} {claims claim : ℕ} (passed : Passed lists claims claim) where
   all_passed : claims ≤ claim → Checked lists claims (figures_of AllStand)
   all_passed over =
@@ -32,46 +28,10 @@ module _ {lists : FiveLists} {claims claim : ℕ} (passed : Passed lists claims 
         record { has_each = passed.has_each; within = omega arith; before = rw (add-one claim) (one_more passed.before (rw stands at judges)) }
 
     refused_here : {refusal : Refusal} → verdict ≡ Verdict.Refused refusal → Checked lists claims (figures_of (Refused claim refusal))
-    refused_here is-refused = one_refused claim _ (record { within = below; before = passed.before; is_first = rw is-refused at judges }) refl
+    refused_here is_refused = one_refused claim _ (record { within = below; before = passed.before; is_first = rw is_refused at judges }) refl
 
 pub loop-claim-init : goal.loop-claim-init
 loop-claim-init c = search (rules, begins)
-
-pub offset_bounds-fluids-claim : goal.offset_bounds-fluids-claim
-offset_bounds-fluids-claim c = omega arith
-
-pub bounds-fluids-claim : goal.bounds-fluids-claim
-bounds-fluids-claim c = omega arith
-
-pub offset_bounds-millikelvin-claim : goal.offset_bounds-millikelvin-claim
-offset_bounds-millikelvin-claim c = omega arith
-
-pub bounds-millikelvin-claim : goal.bounds-millikelvin-claim
-bounds-millikelvin-claim c = omega arith
-
-pub offset_bounds-pascals-claim : goal.offset_bounds-pascals-claim
-offset_bounds-pascals-claim c = omega arith
-
-pub bounds-pascals-claim : goal.bounds-pascals-claim
-bounds-pascals-claim c = omega arith
-
-pub offset_bounds-sides-claim : goal.offset_bounds-sides-claim
-offset_bounds-sides-claim c = omega arith
-
-pub bounds-sides-claim : goal.bounds-sides-claim
-bounds-sides-claim c = omega arith
-
-pub offset_bounds-roots-claim : goal.offset_bounds-roots-claim
-offset_bounds-roots-claim c = omega arith
-
-pub bounds-roots-claim : goal.bounds-roots-claim
-bounds-roots-claim c = omega arith
-
-pub overflow_add-claim : goal.overflow_add-claim
-overflow_add-claim c = omega arith
-
-pub loop-claim-smaller : goal.loop-claim-smaller
-loop-claim-smaller c = omega arith
 
 pub loop-claim-preserved : goal.loop-claim-preserved
 loop-claim-preserved c = search (rules, goes_on)

@@ -6,7 +6,7 @@ use Rattle.digests.specs.Inside.{Runs}
 use Rattle.digests.proofs.take_digits.Given as goal
 
 abbrev pub invariant-loop-end : goal.invariant-loop-end
-invariant-loop-end l = Runs l.bytes l.from l.number-2 (record { l.number-2 = l.number; l.end = l.end })
+invariant-loop-end l = Runs l.bytes l.from l.number-2 (record { number = l.number; end = l.end })
 
 abbrev pub decreases-loop-end : goal.decreases-loop-end
 decreases-loop-end l = length l.bytes - l.end

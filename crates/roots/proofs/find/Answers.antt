@@ -7,12 +7,12 @@ use Rattle.roots.proofs.Theorems.{finds}
 use Rattle.roots.proofs.find.Goals as goal
 
 -- what `fluid::reduce` says of an accepted state
-reached : (c : goal.In-To-2) → let start = c.args in ReducesTo start.number start.millikelvin start.pascals (with_value (record { fluid = c.in-To.fluid; reduced = c.in-To.reduced }))
+reached : (c : goal.In-To) → let start = c.args in ReducesTo start.number start.millikelvin start.pascals (with_value (record { fluid = c.in-To.fluid; reduced = c.in-To.reduced }))
 reached c = rw c.in-To.is at c.reduce.ensures
 
 pub both_roots-roots-requires : goal.both_roots-roots-requires
 both_roots-roots-requires c =
-    let state = reached c.before in
+    let state = reached c in
     omega (arith, coefficients_at_most _ _ _ state.0 _ state.1)
 
 pub returns-in-Refused : goal.returns-in-Refused
@@ -20,7 +20,7 @@ returns-in-Refused c = rw c.in-Refused.is at c.reduce.ensures
 
 pub returns-in-To : goal.returns-in-To
 returns-in-To c =
-    let fluid = c.before.before in
+    let fluid = c.before in
     let state = reached fluid in
     let roots = c.both_roots-roots.ensures in
     finds (record { fluid = fluid.in-To.fluid; gas = c.both_roots-roots.result.gas; dense = c.both_roots-roots.result.dense }) state.0
