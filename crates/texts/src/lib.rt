@@ -1,6 +1,8 @@
 // A line of output (docs/RULES.md, "What the programs print"): a word and numbers, a single space before
 // each number and byte 10 after the last. It is gathered in one buffer: each private function puts some of
 // it at a place, and answers the place behind it.
+#![tactic(auto)]
+
 ghost use Rattle.std.specs.Prelude.{◌+◌, ◌≤◌, length};
 ghost use Rattle.buffers.specs.Puts.{Holds};
 ghost use Rattle.texts.specs.Texts.{spaced, numbers_text};

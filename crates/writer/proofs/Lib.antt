@@ -2,5 +2,6 @@
 pub mod Lines
 pub mod Sheets
 pub mod Telling
+pub mod Writing
 pub mod Back
 pub mod Theorems

@@ -2,6 +2,8 @@
 // list of pressures, any numbers at all, become the sheet that the grammar of `sheets` writes from them, in
 // a buffer that the caller lends. All is measured before the first byte is written, so a refusal leaves the
 // buffer as it was.
+#![tactic(auto)]
+
 mod putting;
 
 ghost use Rattle.measures.specs.Columns.{fluids_of};

@@ -1,15 +1,9 @@
 -- `buffers::put` meets its contract: the part of the buffer from the place on begins with the text. Assumes nothing.
 use mathlib.Core.Path.{refl}
 use native.Mathlib.Omega.{arith}
-use Rattle.buffers.specs.Puts.{has_room, no_room}
+use Rattle.buffers.specs.Puts.{has_room}
 use Rattle.buffers.proofs.Holding.{holding_copied}
 use Rattle.buffers.proofs.put.Goals as goal
-
-pub returns-then-buffer-at : goal.returns-then-buffer-at
-returns-then-buffer-at c = no_room (omega arith) refl refl
-
-pub returns-then-buffer-at-2 : goal.returns-then-buffer-at-2
-returns-then-buffer-at-2 c = no_room (omega arith) refl refl
 
 pub returns : goal.returns
 returns c =

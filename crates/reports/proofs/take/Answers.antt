@@ -14,7 +14,7 @@ slice_bounds-rest-start c = (moves_on c.loop-line.invariant c.take-told.result c
 pub loop-line-smaller : goal.loop-line-smaller
 loop-line-smaller c =
     let moves = moves_on c.loop-line.invariant c.take-told.result c.take-told.ensures _ c.in-State.is in
-    omega (arith, moves.0, moves.1, c.rest-1.given)
+    omega (arith, moves.0, moves.1)
 
 pub loop-line-preserved : goal.loop-line-preserved
 loop-line-preserved c = one_added c.loop-line.invariant c.take-told.result c.take-told.ensures _ c.in-State.is c.add_line-state_lines.ensures

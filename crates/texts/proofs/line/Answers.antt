@@ -1,7 +1,6 @@
 -- `texts::line` meets its contract: its parts, one behind another, or nothing. Assumes nothing.
 use mathlib.Core.Path.{refl}
 use native.Mathlib.Omega.{arith}
-use borrow.Author.Rules.{rules}
 use borrow.Author.Tests.{le-leb, lt-leb}
 use Rattle.texts.proofs.Lines.{numbers_fit, fitted, unfitted}
 use Rattle.texts.proofs.line.Goals as goal
@@ -25,5 +24,3 @@ pub put_numbers-numbers_end-requires : goal.put_numbers-numbers_end-requires
 put_numbers-numbers_end-requires c =
     let asked = c.args in
     numbers_fit asked.word.now asked.numbers.now (omega arith) (omega arith) (omega arith) c.put-word_end.ensures
-
--- slice-aggregate-put-3 c = search rules

@@ -1,5 +1,4 @@
 use mathlib.Core.Path.{refl}
-use Prim.Native.Nat.{◌-◌}
 use native.Mathlib.Omega.{arith}
 use Rattle.buffers.proofs.Underway.{buffer_long}
 use Rattle.texts.proofs.Numbers.{none_taken, one_fits, one_more_taken, all_taken}
@@ -14,17 +13,8 @@ loop-taken-init c = none_taken _ _ _ c.requires
 pub loop-taken-preserved : goal.loop-taken-preserved
 loop-taken-preserved c = one_more_taken c.loop-taken.invariant (omega arith) c.put_spaced-end.ensures refl
 
-pub offset_bounds-numbers-taken : goal.offset_bounds-numbers-taken
-offset_bounds-numbers-taken c = omega arith
-
-pub bounds-numbers-taken : goal.bounds-numbers-taken
-bounds-numbers-taken c = omega arith
-
 pub put_spaced-end-requires : goal.put_spaced-end-requires
 put_spaced-end-requires c = one_fits c.loop-taken.invariant (omega arith)
-
-pub overflow_step-taken : goal.overflow_step-taken
-overflow_step-taken c = omega arith
 
 pub shape_of-buffer : goal.shape_of-buffer
 shape_of-buffer c = omega (arith, buffer_long c.loop-taken.invariant.underway)

@@ -1,6 +1,4 @@
--- `texts::put_numbers` meets its contract. The loop's invariant is `SoFar`: the numbers that are left are what is left to put. The measure is how
--- many are left. Assumes nothing.
-use Prim.Native.Nat.{◌-◌}
+-- `texts::put_numbers` meets its contract. The loop's invariant is `SoFar`: the numbers that are left are what is left to put. Assumes nothing.
 use Rattle.texts.proofs.Numbers.{SoFar}
 use Rattle.texts.proofs.put_numbers.Given as goal
 

@@ -1,10 +1,7 @@
 -- `texts::put_spaced` meets its contract: its parts, one behind another. Assumes nothing.
 use mathlib.Core.Path.{refl}
-use borrow.Author.Rules.{rules}
 use Rattle.texts.proofs.Numbers.{spaced_put}
 use Rattle.texts.proofs.put_spaced.Goals as goal
-
--- slice-aggregate-put c = search rules
 
 pub returns : goal.returns
 returns c =

@@ -1,4 +1,3 @@
-use Prim.Native.Nat.{◌-◌}
 use native.Mathlib.Omega.{arith}
 use Rattle.measures.proofs.Numbers.{none_passed, one_passed, one_found, all_passed}
 use Rattle.measures.proofs.fits.over_ten_digits.Goals as goal
@@ -6,17 +5,8 @@ use Rattle.measures.proofs.fits.over_ten_digits.Goals as goal
 pub loop-taken-init : goal.loop-taken-init
 loop-taken-init c = none_passed _
 
-pub offset_bounds-numbers-taken : goal.offset_bounds-numbers-taken
-offset_bounds-numbers-taken c = omega arith
-
-pub bounds-numbers-taken : goal.bounds-numbers-taken
-bounds-numbers-taken c = omega arith
-
 pub returns-then-numbers-taken-gt-MOST_NUMBER : goal.returns-then-numbers-taken-gt-MOST_NUMBER
 returns-then-numbers-taken-gt-MOST_NUMBER c = one_found c.loop-taken.invariant (omega arith) (omega arith)
-
-pub overflow_step-taken : goal.overflow_step-taken
-overflow_step-taken c = omega arith
 
 pub loop-taken-preserved : goal.loop-taken-preserved
 loop-taken-preserved c = one_passed c.loop-taken.invariant (omega arith) (omega arith)

@@ -1,6 +1,5 @@
 -- `measures::fits::over_ten_digits` meets its contract. The loop's invariant is `Passed`: a number that has too many digits is among those that are
--- left. The measure is how many these are. Assumes nothing.
-use Prim.Native.Nat.{◌-◌}
+-- left. Assumes nothing.
 use Rattle.measures.proofs.Numbers.{Passed}
 use Rattle.measures.proofs.fits.over_ten_digits.Given as goal
 

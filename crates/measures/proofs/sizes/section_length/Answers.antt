@@ -1,10 +1,6 @@
-use Prim.Native.Nat.{◌-◌}
 use native.Mathlib.Omega.{arith}
 use Rattle.measures.proofs.Lengths.{count_measured, writable_here, line_measured, all_measured}
 use Rattle.measures.proofs.sizes.section_length.Goals as goal
-
-pub overflow_add-length : goal.overflow_add-length
-overflow_add-length c = omega arith
 
 pub loop-taken-init : goal.loop-taken-init
 loop-taken-init c = count_measured c.requires c.width-length.ensures
@@ -14,15 +10,6 @@ width-requires c = (writable_here c.loop-taken.invariant (omega arith)).temperat
 
 pub width-requires-in-loop-taken : goal.width-requires-in-loop-taken
 width-requires-in-loop-taken c = (writable_here c.loop-taken.invariant (omega arith)).pressure
-
-pub overflow_add-length-in-loop-taken : goal.overflow_add-length-in-loop-taken
-overflow_add-length-in-loop-taken c = omega arith
-
-pub overflow_add-length-in-loop-taken-2 : goal.overflow_add-length-in-loop-taken-2
-overflow_add-length-in-loop-taken-2 c = omega arith
-
-pub overflow_add-length-in-loop-taken-3 : goal.overflow_add-length-in-loop-taken-3
-overflow_add-length-in-loop-taken-3 c = omega arith
 
 pub loop-taken-preserved : goal.loop-taken-preserved
 loop-taken-preserved c = line_measured c.loop-taken.invariant (omega arith) c.width.ensures c.width-in-loop-taken.ensures

@@ -1,6 +1,5 @@
--- `measures::sizes::section_length` meets its contract. The loop's invariant is `Measured`: the length so far, and what is left, make the section's. The
--- measure is how many states are left. Assumes nothing.
-use Prim.Native.Nat.{◌-◌}
+-- `measures::sizes::section_length` meets its contract. The loop's invariant is `Measured`: the length so far, and what is left, make the section's.
+-- Assumes nothing.
 use Rattle.measures.proofs.Lengths.{Measured}
 use Rattle.measures.proofs.sizes.section_length.Given as goal
 

@@ -1,19 +1,9 @@
-use Prim.Native.Nat.{◌-◌}
 use native.Mathlib.Omega.{arith}
 use Rattle.measures.proofs.Lengths.{one_digit, one_more_digit, all_digits}
 use Rattle.measures.proofs.sizes.width.Goals as goal
 
 pub loop-above-init : goal.loop-above-init
 loop-above-init c = one_digit _
-
-pub overflow_mul-above : goal.overflow_mul-above
-overflow_mul-above c = omega arith
-
-pub overflow_add-width : goal.overflow_add-width
-overflow_add-width c = omega arith
-
-pub loop-above-smaller : goal.loop-above-smaller
-loop-above-smaller c = omega arith
 
 pub loop-above-preserved : goal.loop-above-preserved
 loop-above-preserved c = one_more_digit c.loop-above.invariant (omega arith)

@@ -1,7 +1,5 @@
 use mathlib.Core.Path.{refl}
-use Prim.Native.Nat.{◌-◌}
 use native.Mathlib.Omega.{arith}
-use borrow.Author.Rules.{rules}
 use Rattle.buffers.proofs.Underway.{buffer_long}
 use Rattle.writer.proofs.Lines.{state_fits, state_written, all_written, begins, section_put}
 use Rattle.writer.proofs.putting.put_section.Goals as goal
@@ -17,25 +15,8 @@ loop-taken-init c =
 pub loop-taken-preserved : goal.loop-taken-preserved
 loop-taken-preserved c = state_written c.loop-taken.invariant (omega arith) c.put_state-end.ensures
 
--- slice-aggregate-put c = search rules
-
-pub offset_bounds-millikelvin-taken : goal.offset_bounds-millikelvin-taken
-offset_bounds-millikelvin-taken c = omega arith
-
-pub bounds-millikelvin-taken : goal.bounds-millikelvin-taken
-bounds-millikelvin-taken c = omega arith
-
-pub offset_bounds-pascals-taken : goal.offset_bounds-pascals-taken
-offset_bounds-pascals-taken c = omega arith
-
-pub bounds-pascals-taken : goal.bounds-pascals-taken
-bounds-pascals-taken c = omega arith
-
 pub put_state-end-requires : goal.put_state-end-requires
 put_state-end-requires c = state_fits c.loop-taken.invariant (omega arith)
-
-pub overflow_step-taken : goal.overflow_step-taken
-overflow_step-taken c = omega arith
 
 pub shape_of-buffer : goal.shape_of-buffer
 shape_of-buffer c = omega (arith, buffer_long c.loop-taken.invariant.underway)

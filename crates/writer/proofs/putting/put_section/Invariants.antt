@@ -1,6 +1,5 @@
--- `writer::putting::put_section` meets its contract. The loop's invariant is `Written`: the lines of the states that are left are what is left to put. The
--- measure is how many these are. Assumes nothing.
-use Prim.Native.Nat.{◌-◌}
+-- `writer::putting::put_section` meets its contract. The loop's invariant is `Written`: the lines of the states that are left are what is left to put.
+-- Assumes nothing.
 use Rattle.writer.proofs.Lines.{Written}
 use Rattle.writer.proofs.putting.put_section.Given as goal
 
