@@ -4,12 +4,6 @@ use borrow.Author.Rules.{rules}
 use Rattle.pages.proofs.Rows.{row_before, two_before, no_rows}
 use Rattle.pages.proofs.put_densities.Goals as goal
 
--- slice-aggregate-put-row c = search rules
-
--- slice-aggregate-put-reached c = search rules
-
--- slice-aggregate-put-reached-2 c = search rules
-
 pub returns : goal.returns
 returns c =
-    row_before c.put_row-smallest.ensures refl (two_before c.put_reached.ensures refl (two_before c.put_reached.ensures refl (no_rows c.put_reached.ensures)))
+    row_before c.put_row-smallest.ensures refl (two_before c.put_reached-largest.ensures refl (two_before c.put_reached.ensures refl (no_rows c.put_reached.ensures)))

@@ -6,16 +6,6 @@ use Rattle.pages.specs.Pages.{heading}
 use Rattle.pages.proofs.Filling.{line_fills}
 use Rattle.pages.proofs.put_heading.Goals as goal
 
--- slice-aggregate-put-label c = search rules
-
--- slice-aggregate-put-cell c = search rules
-
--- slice-aggregate-put-cell-2 c = search rules
-
--- slice-aggregate-put-cell-3 c = search rules
-
--- slice-aggregate-put c = search rules
-
 pub returns : goal.returns
 unfolding heading
 returns c =

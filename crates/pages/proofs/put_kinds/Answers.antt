@@ -4,10 +4,6 @@ use borrow.Author.Rules.{rules}
 use Rattle.pages.proofs.Rows.{row_before, no_rows}
 use Rattle.pages.proofs.put_kinds.Goals as goal
 
--- slice-aggregate-put-row c = search rules
-
--- slice-aggregate-put-row-2 c = search rules
-
 pub returns : goal.returns
 returns c =
-    row_before c.put_row.ensures refl (row_before c.put_row.ensures refl (no_rows c.put_row.ensures))
+    row_before c.put_row-split.ensures refl (row_before c.put_row.ensures refl (no_rows c.put_row.ensures))

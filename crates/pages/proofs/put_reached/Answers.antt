@@ -3,8 +3,6 @@ use borrow.Author.Rules.{rules}
 use Rattle.pages.proofs.Filling.{both_fill}
 use Rattle.pages.proofs.put_reached.Goals as goal
 
--- slice-aggregate-put-row c = search rules
-
 pub returns : goal.returns
 returns c =
-    both_fill c.put_row.ensures c.put_row.ensures
+    both_fill c.put_row-line.ensures c.put_row.ensures

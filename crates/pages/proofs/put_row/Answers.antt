@@ -6,8 +6,6 @@ use Rattle.pages.specs.Pages.{row_text}
 use Rattle.pages.proofs.Filling.{line_fills}
 use Rattle.pages.proofs.put_row.Goals as goal
 
--- slice-aggregate-put c = search rules
-
 pub returns : goal.returns
 unfolding row_text
 returns c =

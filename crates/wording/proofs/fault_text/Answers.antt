@@ -10,4 +10,3 @@ pub returns : goal.returns
 returns c =
     subst (λ (f : SheetFigures). Written (Fitted SHEET (number_and_place f)) c.line.result) c.figures-figures.ensures c.line.ensures
 
--- slice-aggregate-line-2 c = search rules

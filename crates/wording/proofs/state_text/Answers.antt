@@ -19,8 +19,3 @@ returns c =
     replied c.ask-reply.result c.ask-reply.ensures c.figures-figures.ensures c.line-2.ensures
     (λ text is_text. rw (eq-eqb _ _ c.if-number-ne0.false, ne_eqb _ _ c.if-kind-eq-ONE.false) is_text)
 
--- slice-aggregate-line-4 c = search rules
-
--- slice-aggregate-line-5 c = search rules
-
--- slice-aggregate-line-6 c = search rules
