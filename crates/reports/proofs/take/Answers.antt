@@ -6,10 +6,10 @@ pub loop-line-init : goal.loop-line-init
 loop-line-init c = none_gone _ _ _
 
 pub slice_bounds-rest-count : goal.slice_bounds-rest-count
-slice_bounds-rest-count c = (moves_on c.loop-line.invariant c.take-told.result c.take-told.ensures _ c.in-State.is).0
+slice_bounds-rest-count c = omega (arith, (moves_on c.loop-line.invariant c.take-told.result c.take-told.ensures _ c.in-State.is).0)
 
 pub slice_bounds-rest-start : goal.slice_bounds-rest-start
-slice_bounds-rest-start c = (moves_on c.loop-line.invariant c.take-told.result c.take-told.ensures _ c.in-State.is).0
+slice_bounds-rest-start c = omega (arith, (moves_on c.loop-line.invariant c.take-told.result c.take-told.ensures _ c.in-State.is).0)
 
 pub loop-line-smaller : goal.loop-line-smaller
 loop-line-smaller c =
