@@ -11,7 +11,7 @@
  * What a call costs is said with it, behind "Costs": what the work grows with, and the magnitude of the time on a usual processor, which is no
  * promise; docs/BENCHMARK.md has figures of one machine. What is refused at once, as by 1, 21 or 7, takes some 10 ns.
  *
- * Link libwoolyard.a (x86-64 Linux), which `rt staticlib woolyard` writes. Of the C library it needs memcpy, and nothing else. */
+ * Link libwoolyard.a (x86-64 Linux), which `rt lib` writes in crates/woolyard/out. Of the C library it needs memcpy, and nothing else. */
 #ifndef WOOLYARD_H
 #define WOOLYARD_H
 

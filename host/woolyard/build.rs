@@ -10,7 +10,7 @@ use std::fs;
 use std::path::{Path, PathBuf};
 use std::process::{Command, Output};
 
-const FOLDER: &str = "../../target/staticlib";
+const FOLDER: &str = "../../crates/woolyard/out";
 
 /// Prints the archive's ABI.
 const PROGRAM: &str = r#"
@@ -46,7 +46,7 @@ fn check(folder: &Path, archive: &Path) -> Result<(), String> {
         return Err("libwoolyard.a is for x86-64 and can't be linked here.".to_string());
     }
     if !archive.is_file() {
-        return Err("libwoolyard.a is missing: build it with `rt staticlib woolyard`.".to_string());
+        return Err("libwoolyard.a is missing: build it with `rt lib` in crates/woolyard.".to_string());
     }
     // a program for another machine can't be asked here; `woolyard::abi` can, there
     if named("HOST") != named("TARGET") {

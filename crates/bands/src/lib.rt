@@ -1,5 +1,7 @@
 // What if the attraction is a little off (docs/RULES.md, "The band"): the gas root of a state at two
 // scalings of its a, between which lies that of every scaling between them.
+#![tactic(auto)]
+
 mod replies;
 
 ghost use Rattle.cubic.specs.Cubic.{GasRoot};

@@ -1,5 +1,7 @@
 // What the calls on a state share, whichever form they have: the checks behind the state's own, in the
 // rules' order, and what they leave in the book of starting points (docs/RULES.md, "Sides" and "The book").
+#![tactic(auto)]
+
 ghost use Rattle.roots.specs.Promise.{finding};
 ghost use Rattle.calls.specs.Promise.{FindsAs, FindsWithBook};
 ghost use Rattle.calls.specs.Inside.{Stands};

@@ -13,7 +13,6 @@ use Rattle.claims.specs.declared.reply.ClaimsReply.{ClaimsReply}
 use Rattle.claims.specs.declared.reply.ClaimsReply.TheVariants.{AllStand, Refused, LengthsDiffer}
 use Rattle.claims.specs.declared.reply.ClaimsFigures.{ClaimsFigures}
 use Rattle.claims.specs.declared.judging.Verdict.{Verdict}
-use Rattle.claims.specs.declared.judging.Verdict.TheVariants as Verdict
 use Rattle.claims.specs.Claims.{Stands, claim_checks}
 use Rattle.claims.specs.Lists.{FiveLists, count, UnequalLengths, OneLength, claim_at, StandBefore}
 use Rattle.claims.specs.Replies.{refused_with, figures_of, FirstRefused, Checked, all_stand, one_refused, Replies}

@@ -14,7 +14,6 @@ use Rattle.calls.specs.declared.Form.TheVariants.{Side}
 use Rattle.calls.specs.Checks.{form_checks}
 use Rattle.calls.proofs.Theorems.{call_decided}
 use Rattle.claims.specs.declared.judging.Verdict.{Verdict}
-use Rattle.claims.specs.declared.judging.Verdict.TheVariants as Verdict
 use Rattle.claims.specs.Claims as claims
 use Rattle.claims.specs.Claims.{Claim, SideRoot, side_checks, Stands, root_checks, claim_checks}
 use Rattle.claims.specs.Inside.{Judges}

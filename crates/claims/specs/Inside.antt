@@ -3,7 +3,6 @@ use Rattle.std.specs.Prelude.{Bool, true, false, ℕ, ◌≤◌, length}
 use Rattle.refusals.specs.Checks.{FirstOf}
 use Rattle.refusals.specs.Numbers.{number_of_refusal}
 use Rattle.claims.specs.declared.judging.Verdict.{Verdict}
-use Rattle.claims.specs.declared.judging.Verdict.TheVariants as Verdict
 use Rattle.claims.specs.Claims.{Claim, Stands, claim_checks}
 use Rattle.claims.specs.Lists.{FiveLists, UnequalLengths, OneLength}
 

@@ -1,6 +1,8 @@
 // Roots that other programs gave, checked (docs/RULES.md, "Claims"): a list of claims, each a fluid, a
 // temperature, a pressure, a side and a root, any numbers at all, as five lists. The lists are read once,
 // claim by claim, up to the first that is refused.
+#![tactic(auto)]
+
 mod judging;
 mod reply;
 

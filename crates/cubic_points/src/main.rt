@@ -1,10 +1,15 @@
 // Prints what `engine::solve` answers for each point of standard input, a line "a b start", and last
 // how many points there were. The gate holds the output to what a scan of the whole grid answers
 // (host/checks/stored makes that again).
+#![tactic(auto)]
+
 ghost use Rattle.std.specs.Prelude.{◌+◌, ◌≤◌, ◌<◌, max, length};
 
 use engine::Solution;
-use libc::{STDIN_FILENO, STDOUT_FILENO};
+
+const STDIN_FILENO: i32 = 0;
+
+const STDOUT_FILENO: i32 = 1;
 
 const LARGEST: u64 = 18_446_744_073_709_551_615;
 

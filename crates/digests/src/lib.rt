@@ -1,5 +1,7 @@
 // What a line's bytes come to, taken one at a time (docs/RULES.md, "Sheets"). A line of either kind is
 // read by the same steps, and a digest may be kept between two parts of a line.
+#![tactic(auto)]
+
 ghost use Rattle.std.specs.Prelude.{◌≡◌, drop};
 ghost use Rattle.sheets.specs.Digests.{opens, grows, first_of, second_of, takes, scans};
 ghost use Rattle.digests.specs.Inside.{Runs, GoesOn};

@@ -1,5 +1,7 @@
 // The engine for the Redlich-Kwong cubic of docs/RULES.md: for every a and b within bounds, its largest and
 // its smallest crossing, whatever the starting point holds.
+#![tactic(auto)]
+
 mod shortcuts;
 
 ghost use Rattle.engine.specs.Promise.{Solves};

@@ -1,5 +1,7 @@
 // Hydrogen's ideal heat capacity (TM-564, Table 4; docs/RULES.md, under the same name): any
 // double at all is a temperature to ask for, and gets the table's double, bit for bit, or the refusal.
+#![tactic(auto)]
+
 mod evaluation;
 mod replies;
 mod table;

@@ -2,12 +2,17 @@
 // pattern of 64 bits in hexadecimal: the pattern of the answer, or NO and the number of the refusal.
 // Last it prints how many lines there were. The gate holds the output to what another implementation
 // answers (host/checks/stored makes that again).
+#![tactic(auto)]
+
 ghost use Rattle.std.specs.Prelude.{◌≡◌, ◌+◌, ◌≤◌, ◌<◌, length};
 ghost use Rattle.std.specs.Float.{binary64};
 ghost use Rattle.std.specs.Float.Ieee.{of_bits};
 
 use heat::HeatCapacity;
-use libc::{STDIN_FILENO, STDOUT_FILENO};
+
+const STDIN_FILENO: i32 = 0;
+
+const STDOUT_FILENO: i32 = 1;
 
 const SIGN: u64 = 0x8000_0000_0000_0000;
 

@@ -1,6 +1,8 @@
 // Hydrogen's ideal heat capacity for a machine that has no doubles (docs/RULES.md, "The heat table"): any
 // number at all is a temperature to ask for, in millikelvin, and gets a whole number of J/(kg K) or a
 // refusal.
+#![tactic(auto)]
+
 mod entries;
 mod replies;
 

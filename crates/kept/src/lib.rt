@@ -1,6 +1,8 @@
 // A reader of a sheet that arrives in parts, as eight numbers that its caller keeps between two of them
 // (docs/RULES.md, "A sheet in parts"). Zeros are a reader before the first byte, and any numbers at all are
 // some reader.
+#![tactic(auto)]
+
 ghost use Rattle.std.specs.Prelude.{◌≡◌};
 ghost use Rattle.kept.specs.Numbers.{digest_of, three_of, reader_of, numbers_of};
 

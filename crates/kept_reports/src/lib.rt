@@ -1,6 +1,8 @@
 // A report as rows of eleven numbers, one for each section, and what is kept of a sheet that arrives in
 // parts, as a row more before them (docs/RULES.md, "The report"). Zeros are a sheet before its first byte,
 // and any numbers at all are some reader and some report.
+#![tactic(auto)]
+
 ghost use Rattle.std.specs.Prelude.{◌≡◌};
 ghost use Rattle.kept_reports.specs.Rows.{rows_of, reader_row, kept_rows, reporting_of};
 

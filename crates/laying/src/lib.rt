@@ -1,5 +1,7 @@
 // What a reply comes to where a caller of the boundary reads it: which of its figures lies where, for the calls that share a
 // reply. They stand apart from the boundary, so that what is wrong in one of them is tried on these few functions.
+#![tactic(auto)]
+
 ghost use Rattle.laying.specs.States.{Laid};
 ghost use Rattle.laying.specs.Sides.{SideLaid};
 ghost use Rattle.laying.specs.Lines.{AnswersBrought};

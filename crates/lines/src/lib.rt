@@ -1,4 +1,6 @@
 // One line of a sheet (docs/RULES.md, "Sheets"), read where a cursor stands.
+#![tactic(auto)]
+
 ghost use Rattle.std.specs.Prelude.{◌≡◌, ◌-◌};
 ghost use Rattle.sheets.specs.Grammar.{all_sections};
 ghost use Rattle.sheets.specs.Lines.{counted, stated, ended, wants_line, unended, met};

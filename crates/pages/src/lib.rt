@@ -1,6 +1,8 @@
 // The page about a whole sheet, which the program `report` prints (docs/RULES.md, "What the programs
 // print"): a heading and eleven rows, each a label and a figure of each section, in columns. Each private
 // function fills some columns of the buffer from a place on, and answers the place behind them.
+#![tactic(auto)]
+
 ghost use Rattle.std.specs.Prelude.{◌≡◌, ◌+◌, ◌*◌, ◌≤◌, length};
 ghost use Rattle.sheets.specs.Grammar.{digits};
 ghost use Rattle.buffers.specs.Puts.{most_digits};

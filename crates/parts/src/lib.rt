@@ -1,6 +1,8 @@
 // Sheets that arrive in parts (docs/RULES.md, "A sheet in parts"): the bytes come in any pieces, and each
 // state is told as its line ends. No line is kept: a reader has the digest of the line so far and a few
 // numbers.
+#![tactic(auto)]
+
 mod going;
 
 ghost use Rattle.std.specs.Prelude.{◌≡◌};

@@ -1,5 +1,7 @@
 // What the program `sheet` prints (docs/RULES.md, "What the programs print"): a line for each state line,
 // or for a refused sheet only its own. The crate `wording` has what stands in a line.
+#![tactic(auto)]
+
 ghost use Rattle.std.specs.Prelude.{◌≤◌, length, take};
 ghost use Rattle.io.specs.Counts.{IsPrefixLen};
 ghost use Rattle.buffers.specs.Puts.{Puts};

@@ -1,5 +1,6 @@
 -- The pass over a whole sheet that counts its state lines and keeps line k. Assumes nothing.
 use mathlib.Core.Path.{◌≡◌, refl, sym, ap, ◌∙◌}
+use mathlib.Core.Logic.{◌⊎◌, inl, inr}
 use mathlib.Core.List.{List, [], ◌∷◌, ◌++◌}
 use Prim.Native.Nat.{ℕ, zero, suc, ◌+◌, ◌*◌, ◌≤◌}
 use native.Mathlib.Omega.{arith}
@@ -56,6 +57,11 @@ module _ {bytes : List ℕ} {k : ℕ} {cursor : Cursor} {count : ℕ} {wanted : 
     pub walks_past : (found : State) → (count ≡ k → ⊥) → found ≡ wanted → Walked bytes k after (count + 1) found
     walks_past found not_here is_found =
         walks_with found (is_found ∙ walked.is_wanted ∙ get_d_elsewhere walked.states state k (λ same. not_here (walked.is_count ∙ same)))
+
+    -- whichever it is
+    pub walks_on : (found : State) → ((count ≡ k) × (found ≡ state)) ⊎ ((count ≡ k → ⊥) × (found ≡ wanted)) → Walked bytes k after (count + 1) found
+    walks_on found (inl here) = walks_here found here.0 here.1
+    walks_on found (inr past) = walks_past found past.0 past.1
 
   pub found_all : NextIn all_sections bytes cursor Next.Over → Counted bytes k count wanted
   found_all next =

@@ -1,5 +1,7 @@
 // State sheets (docs/RULES.md, "Sheets"): any bytes at all are read as the sheet that they are, or refused
 // with the number, the place and the faulty line. No byte of a sheet is written.
+#![tactic(auto)]
+
 mod cursors;
 
 ghost use Rattle.std.specs.Prelude.{◌≡◌};

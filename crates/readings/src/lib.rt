@@ -1,4 +1,6 @@
 // What is answered of a sheet, and what docs/RULES.md, "Replies", says of each case.
+#![tactic(auto)]
+
 ghost use Rattle.std.specs.Prelude.{◌≡◌};
 ghost use Rattle.readings.specs.Figures.{sheet_figures, line_figures, line_refused};
 

@@ -1,21 +1,24 @@
 // Reads a state sheet from standard input and writes the page about it (docs/RULES.md, "What the programs print"), as the
 // crate `report_printing` has it. What can't be read or written is told on standard error, and nothing else is.
-use libc::{STDIN_FILENO, STDOUT_FILENO};
+#![tactic(auto)]
+
 use pages::PAGE_BYTES;
 use report_printing::print;
+use std::io;
 
-fn main() {
+fn main(rt: HostRuntime) -> io::Result<()> {
     // One byte more than a sheet may have, so that a longer one is told.
     let mut input = [0u8; 65_537];
-    let read = streams::read(STDIN_FILENO, &mut input);
+    let mut why = None;
+    let read = streams::read(&mut rt.stdin(), &mut input, &mut why);
     if read.failed {
-        os::fail(b"report: the sheet was not read");
-        return;
+        return streams::tell(&rt, "report: the sheet was not read", &why);
     }
     let held = read.held;
     let mut text = [0u8; PAGE_BYTES];
     let written = print(&input[..held], &mut text);
-    if streams::write(STDOUT_FILENO, &text[..written]) < written {
-        os::fail(b"report: not all of the page was written");
+    if streams::write(&mut rt.stdout(), &text[..written], &mut why) < written {
+        return streams::tell(&rt, "report: not all of the page was written", &why);
     }
+    Ok(())
 }

@@ -1,5 +1,7 @@
 // What the program `report` prints (docs/RULES.md, "What the programs print"): the page of a sheet's
 // report, or for a refused sheet what `sheet` prints of it.
+#![tactic(auto)]
+
 ghost use Rattle.std.specs.Prelude.{◌≤◌, length, take};
 ghost use Rattle.io.specs.Counts.{IsPrefixLen};
 ghost use Rattle.texts.specs.Buffer.{longest_line};

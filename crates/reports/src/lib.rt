@@ -1,6 +1,8 @@
 // One page about a whole sheet (docs/RULES.md, "The report"): what its states come to, fluid by fluid. A
 // sheet may come whole or in parts; either way the one step of `tallies` goes over its states, as their
 // lines end.
+#![tactic(auto)]
+
 mod told;
 
 ghost use Rattle.std.specs.Prelude.{◌≡◌};

@@ -10,7 +10,6 @@ use Rattle.fluid.specs.Checks.{state_checks}
 use Rattle.fluid.proofs.Fluids.{number_determines_fluid}
 use Rattle.fluid.proofs.Theorems.{reduced_determined, reached_exists}
 use Rattle.roots.specs.declared.Finding.{Finding}
-use Rattle.roots.specs.declared.Finding.TheVariants as Finding
 use Rattle.roots.specs.Promise.{Found, finding, HasRoots, Finds}
 
 pub finds : {number millikelvin pascals : ℕ} (found : Found) → NoneOf (state_checks number millikelvin pascals) → HasRoots number millikelvin pascals found → Finds number millikelvin pascals (with_value found)

@@ -9,7 +9,6 @@ use Rattle.fluid.specs.Figures.{number_of}
 use Rattle.fluid.specs.Checks.{state_checks}
 use Rattle.fluid.specs.Reduced.{Reduces}
 use Rattle.roots.specs.declared.Finding.{Finding}
-use Rattle.roots.specs.declared.Finding.TheVariants as Finding
 
 -- the fluid of a state and its two roots
 pub record Found : Type 0 where

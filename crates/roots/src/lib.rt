@@ -1,4 +1,6 @@
 // The two roots of a state, or the first refusal that applies to it: all of an answer but its densities.
+#![tactic(auto)]
+
 ghost use Rattle.cubic.specs.Promise.{Within, BothRoots};
 ghost use Rattle.roots.specs.Promise.{finding, Finds};
 

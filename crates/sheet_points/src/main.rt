@@ -3,9 +3,13 @@
 // place for each of its state lines, for the one past the last and for the largest number there is. A
 // sheet ends at a `~`, which no sheet here holds. Last it prints how many sheets there were. The gate
 // holds the output to what another implementation answers (host/checks/stored makes that again).
+#![tactic(auto)]
+
 ghost use Rattle.std.specs.Prelude.{◌≤◌, length};
 
-use libc::{STDIN_FILENO, STDOUT_FILENO};
+const STDIN_FILENO: i32 = 0;
+
+const STDOUT_FILENO: i32 = 1;
 
 const SHEET_END: u8 = b'~';
 

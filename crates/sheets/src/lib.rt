@@ -1,6 +1,7 @@
 // State sheets (docs/RULES.md, "Sheets"): the values that the definitions of a sheet speak of. How a sheet
 // is written and read is defined in specs/, and what follows from that is proved in proofs/; the code that
 // reads one is the crate `reader`.
+#![tactic(auto)]
 
 // A state line: the number of its section's fluid, and its two numbers as written. These do not lie side by side: as they
 // do in a digest, the compiler would move both as one, and the processor would wait until both are written.

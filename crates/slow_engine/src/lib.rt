@@ -1,5 +1,7 @@
 // The slow way, kept beside the quick one (docs/RULES.md, "The walk"): the gas root of the cubic found with no
 // cleverness, by a walk down the grid. It is the root that `engine` finds, and no line of its search is here.
+#![tactic(auto)]
+
 mod signed;
 
 ghost use Rattle.slow_engine.specs.Promise.{Walks};

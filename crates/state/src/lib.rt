@@ -2,6 +2,8 @@
 // pressure in pascals, each any 64-bit number at all, with a book of starting points or without one. A
 // caller gets the whole reply, or names a side and gets what the whole reply has for it ("Sides"). The walk
 // to its gas root and the band of its attraction are handed on, and laid beside it in proofs/.
+#![tactic(auto)]
+
 mod answers;
 
 ghost use Rattle.replies.specs.Figures.{figures_of};

@@ -3,14 +3,17 @@
 // number and the five figures of the reply. The first line is the book before, byte for byte, the last two
 // are the book after and how many states there were. The gate holds the output to what a second implementation
 // answers, which never looks at a book (host/checks/stored makes that again).
+#![tactic(auto)]
+
 mod tables;
 
 ghost use Rattle.std.specs.Prelude.{◌≡◌, ◌*◌, ◌<◌};
 
 use crate::tables::{LARGEST, MISLEADING, PRESSURES, TEMPERATURES};
 use books::BOOK_BYTES;
-use libc::STDOUT_FILENO;
 use state::Figures;
+
+const STDOUT_FILENO: i32 = 1;
 
 const SLOTS: u64 = 64;
 

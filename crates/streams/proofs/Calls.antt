@@ -17,7 +17,6 @@ use mir.Val.{Fits, SFits, to_z, of_z}
 use mir.ValLaws.{to_z-of_z}
 use Rattle.io.specs.Counts.{IsPrefixLen}
 use Rattle.streams.specs.declared.Call.{Call}
-use Rattle.streams.specs.declared.Call.TheVariants as Call
 use Rattle.streams.specs.Streams.{call_of, NothingOfAFailure}
 
 never : {A : Type 0} → true ≡ false → A

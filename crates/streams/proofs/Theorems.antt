@@ -5,7 +5,6 @@ use mathlib.Core.Bool.{Bool, true, false}
 use Prim.Native.Nat.{ℕ}
 use lib.IntN.{ℤ, negsuc}
 use Rattle.streams.specs.declared.Call.{Call}
-use Rattle.streams.specs.declared.Call.TheVariants as Call
 use Rattle.streams.specs.Streams.{call_of}
 
 pub call_determined : (got : ℤ) (interrupted : Bool) (most : ℕ) (call call' : Call) → call ≡ call_of got interrupted most → call' ≡ call_of got interrupted most → call ≡ call'

@@ -1,7 +1,6 @@
 -- docs/RULES.md, "What the programs print": what one call of C's read or write came to, and what was read.
 use Rattle.std.specs.Prelude.{◌≡◌, Bool, true, cond, ℕ, eqb, ltb, ℤ, pos, negsuc, Result, Ok, Err}
 use Rattle.streams.specs.declared.Call.{Call}
-use Rattle.streams.specs.declared.Call.TheVariants as Call
 use Rattle.streams.specs.declared.Input.{Input}
 
 -- a number below 0 is no number of bytes; where a signal came, the call is to be made again

@@ -8,7 +8,7 @@ ghost use Rattle.io.specs.Counts.{IsPrefixLen};
 ghost use Rattle.streams.specs.Streams.{call_of, got_of, NothingOfAFailure};
 
 use std::io;
-use std::io::{ErrorKind, Read, Write};
+use std::io::{Cursor, Eprint, ErrorKind, Read, Write};
 
 // What one call came to: it moved so many bytes, or none, as at the end of an input; a signal came first;
 // or it can't.
@@ -34,6 +34,9 @@ const FAILED_INPUT: Input = Input {
     failed: true,
     held: 0,
 };
+
+// Room for the system's words for any error.
+const ROOM: usize = 256;
 
 // What std tells of a call as C's call answered it: a count, or a number below 0, and whether errno then said that a
 // signal came.
@@ -71,7 +74,7 @@ fn came_to(got: isize, interrupted: bool, most: usize) -> Call
 #[tactic(auto, using(crate::proofs::Calls::lent))]
 pub fn read<R: Read>(input: &mut R, buffer: &mut [u8], why: &mut Option<io::Error>) -> Input
     ensures prefix_len { IsPrefixLen result.held buffer.new }
-    ensures nothing_of_afailure { NothingOfAFailure result }
+    ensures nothing_of_a_failure { NothingOfAFailure result }
 {
     let mut held = 0;
     let mut calls = MOST_CALLS;
@@ -134,4 +137,26 @@ pub fn write<W: Write>(output: &mut W, text: &[u8], why: &mut Option<io::Error>)
         }
     }
     taken
+}
+
+// Tells in a line on standard error what failed, and why in the system's words, without the error's number.
+pub fn tell<R: Eprint>(rt: &R, what: &str, why: &Option<io::Error>) -> io::Result<()> {
+    match why {
+        Some(why) => tell_why(rt, what, why),
+        None => eprintln!(rt; "{what}"),
+    }
+}
+
+fn tell_why<R: Eprint>(rt: &R, what: &str, why: &io::Error) -> io::Result<()> {
+    let mut cursor = Cursor::new([0u8; ROOM]);
+    write!(cursor, "{why}")?;
+    let end = (cursor.position() as usize).min(ROOM);
+    let room = cursor.into_inner();
+    match std::str::from_utf8(&room[..end]) {
+        Ok(text) => match text.rsplit_once(" (os error ") {
+            Some((words, _)) => eprintln!(rt; "{what}: {words}"),
+            None => eprintln!(rt; "{what}: {text}"),
+        },
+        Err(_) => eprintln!(rt; "{what}"),
+    }
 }

@@ -1,6 +1,8 @@
 // What the states of a sheet come to, fluid by fluid (docs/RULES.md, "The report"): a report, and the one
 // step that adds a reply to it. The report of a whole sheet and that of one in parts are this step over its
 // states.
+#![tactic(auto)]
+
 ghost use Rattle.std.specs.Prelude.{◌≡◌, ltb};
 ghost use Rattle.tallies.specs.Steps.{plus, counted, further, beyond, with_reply, empty_report};
 ghost use Rattle.tallies.specs.Rows.{row_of, section_at, report_at, AddsTo};

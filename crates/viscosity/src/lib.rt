@@ -1,6 +1,8 @@
 // The excess viscosity factor of dense gas (TM-564, equation (2.12-2); docs/RULES.md, "Excess viscosity"):
 // any number at all is a reduced density to ask for, in thousandths, and gets the factor, in millionths, or
 // the refusal.
+#![tactic(auto)]
+
 mod quartic;
 mod replies;
 

@@ -2,9 +2,11 @@
 // numbers. A line is the density, the number of the reply and the factor; the last line is how many
 // densities there were. The gate holds the output to what a second implementation answers in exact
 // fractions (host/checks/stored makes that again).
+#![tactic(auto)]
+
 ghost use Rattle.std.specs.Prelude.{◌≡◌};
 
-use libc::STDOUT_FILENO;
+const STDOUT_FILENO: i32 = 1;
 
 const DENSITIES: u64 = 4_001;
 

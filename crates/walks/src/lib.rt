@@ -1,5 +1,7 @@
 // The slow way to the gas root of a state (docs/RULES.md, "The walk"), with as many values of g at most as
 // the caller allows. No book is asked, and nothing of the quick engine is in reach from here.
+#![tactic(auto)]
+
 mod replies;
 
 ghost use Rattle.cubic.specs.Promise.{Within};

@@ -20,7 +20,7 @@ use Rattle.claims.specs.declared.reply.ClaimsFigures.{ClaimsFigures}
 use Rattle.claims.specs.Lists.{FiveLists}
 use Rattle.claims.proofs.Theorems as claims
 use Rattle.heat_table.specs.declared.replies.TableFigures.{TableFigures}
-use Rattle.heat_table.proofs.Theorems as heat-table
+use Rattle.heat_table.proofs.Theorems as heat_table
 use Rattle.viscosity.specs.declared.replies.ExcessFigures.{ExcessFigures}
 use Rattle.viscosity.proofs.Theorems as viscosity
 use Rattle.readings.specs.declared.Reading.{Reading}

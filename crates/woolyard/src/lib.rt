@@ -1,6 +1,8 @@
 // The boundary to C, Rust and Python: the functions of include/woolyard.h, each of which answers the
 // number and lays what goes with it where its caller said. C passes a slice as a pointer and then
 // a length, and an array or a number to write as a pointer.
+#![tactic(auto)]
+
 mod layout;
 
 ghost use Rattle.std.specs.Prelude.{◌≡◌};

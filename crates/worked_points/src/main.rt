@@ -1,10 +1,13 @@
 // Runs what docs/RULES.md says of states under "Points worked through" and "Mistakes that look right", and
 // the ends of each range, a line for each. The gate holds the output to the figures there, and the others to
 // what the rules give. What stands in that table is proved of the definitions as well (`worked`).
+#![tactic(auto)]
+
 use engine::Solution;
 use fluid::{Reduced, Reduction};
-use libc::STDOUT_FILENO;
 use state::Reply;
+
+const STDOUT_FILENO: i32 = 1;
 
 // What each byte of a book is before a call, its slot's own aside.
 const FILLING: u8 = 7;

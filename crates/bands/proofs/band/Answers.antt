@@ -13,7 +13,6 @@ use Rattle.cubic.specs.Cubic.{GasRoot}
 use Rattle.fluid.specs.declared.choice.Fluid.{Fluid}
 use Rattle.fluid.specs.declared.coefficients.Reduced.{Reduced}
 use Rattle.fluid.specs.declared.coefficients.Reduction.{Reduction}
-use Rattle.fluid.specs.declared.coefficients.Reduction.TheVariants as Reduction
 use Rattle.fluid.specs.Promise.{reduction, ReducesTo}
 use Rattle.fluid.proofs.Theorems.{coefficients_at_most}
 use Rattle.bands.specs.declared.replies.BandReply.TheVariants.{Ends, Refused}

@@ -11,7 +11,6 @@ use Rattle.refusals.proofs.Lists.{none_both, first_front, first_behind}
 use Rattle.fluid.specs.declared.choice.Fluid.{Fluid}
 use Rattle.fluid.specs.Checks.{state_checks}
 use Rattle.roots.specs.declared.Finding.{Finding}
-use Rattle.roots.specs.declared.Finding.TheVariants as Finding
 use Rattle.roots.specs.Promise.{finding, Finds}
 use Rattle.calls.specs.declared.Form.{Form}
 use Rattle.calls.specs.Checks.{form_checks}

@@ -1,7 +1,5 @@
 -- `calls::find_with_book` meets its contract: a refusal is passed on with the book as it was, and the gas root of an accepted state is left in
 -- the slot (`Finding.antt`). What the slot said is handed to the search and forgotten. Assumes nothing.
-use Rattle.refusals.specs.Checks.{with_value}
-use Rattle.calls.specs.Promise.{FindsAs}
 use Rattle.calls.proofs.Finding.{found_with_book, refused_by_slot, refused_before_slot}
 use Rattle.calls.proofs.find_with_book.Goals as goal
 

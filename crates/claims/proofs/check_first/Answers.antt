@@ -1,12 +1,11 @@
 use mathlib.Core.Path.{◌≡◌, refl}
-use Prim.Native.Nat.{ℕ, ◌+◌, ◌-◌, ◌≤◌, ◌<◌}
+use Prim.Native.Nat.{ℕ, ◌+◌, ◌≤◌, ◌<◌}
 use native.Mathlib.Numerals.{add-one}
 use native.Mathlib.Omega.{arith}
 use borrow.Author.Rules.{rules}
 use Rattle.refusals.specs.declared.Refusal.{Refusal}
 use Rattle.claims.specs.declared.reply.ClaimsReply.TheVariants.{AllStand, Refused}
 use Rattle.claims.specs.declared.judging.Verdict.{Verdict}
-use Rattle.claims.specs.declared.judging.Verdict.TheVariants as Verdict
 use Rattle.claims.specs.Lists.{FiveLists, claim_at}
 use Rattle.claims.specs.Replies.{figures_of, Checked, all_stand, one_refused}
 use Rattle.claims.specs.Inside.{Judges, HasEach}

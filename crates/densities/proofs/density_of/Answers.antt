@@ -10,21 +10,6 @@ use Rattle.densities.proofs.density_of.Goals as goal
 weighable : (c : goal.Else-root-gt-LARGEST_ROOT) → let start = c.args in Weighable start.millikelvin start.pascals start.root
 weighable c = omega arith
 
-pub returns-then-millikelvin-eq0 : goal.returns-then-millikelvin-eq0
-returns-then-millikelvin-eq0 c = omega arith
-
-pub returns-then-millikelvin-gt-HOTTEST_MILLIKELVIN : goal.returns-then-millikelvin-gt-HOTTEST_MILLIKELVIN
-returns-then-millikelvin-gt-HOTTEST_MILLIKELVIN c = omega arith
-
-pub returns-then-pascals-gt-HIGHEST_PASCALS : goal.returns-then-pascals-gt-HIGHEST_PASCALS
-returns-then-pascals-gt-HIGHEST_PASCALS c = omega arith
-
-pub returns-then-root-eq0 : goal.returns-then-root-eq0
-returns-then-root-eq0 c = omega arith
-
-pub returns-then-root-gt-LARGEST_ROOT : goal.returns-then-root-gt-LARGEST_ROOT
-returns-then-root-gt-LARGEST_ROOT c = omega arith
-
 pub over_gas_constant-requires : goal.over_gas_constant-requires
 over_gas_constant-requires c = (weighable c).pressure_fits
 

@@ -1,36 +1,23 @@
 -- `engine::solve` meets its contract: the ends of the two searches are the roots (`Ends.antt` of `cubic`). Assumes nothing.
 use native.Mathlib.Omega.{arith}
-use Rattle.cubic.specs.Sides.{FallsTo}
 use Rattle.cubic.proofs.Ends.{one_alone, one_below, one_above, one_each}
 use Rattle.searches.proofs.Theorems.{end_within}
 use Rattle.engine.proofs.solve.Goals as goal
 
-pub returns-then-a-gt-LARGEST_A : goal.returns-then-a-gt-LARGEST_A
-returns-then-a-gt-LARGEST_A c = omega arith
-
-pub returns-then-b-gt-LARGEST_B : goal.returns-then-b-gt-LARGEST_B
-returns-then-b-gt-LARGEST_B c = omega arith
-
-fallen : (c : goal.After-gas_crossing-high) → FallsTo c.args.a c.args.b c.gas_crossing-high.result
-fallen c = end_within (omega arith) c.gas_crossing-high.ensures
-
 pub alone-requires : goal.alone-requires
-alone-requires c = (omega arith, fallen c)
+alone-requires c = (omega arith, end_within (omega arith) c.gas_crossing-high.ensures)
 
 pub returns-then-alone : goal.returns-then-alone
-returns-then-alone c = one_alone (omega arith) (fallen c.before.before) (c.alone.ensures c.if-alone.true)
+returns-then-alone c = one_alone (omega arith) (end_within (omega arith) c.gas_crossing-high.ensures) (c.alone.ensures c.if-alone.true)
 
 pub returns-then-high-lt-BEND : goal.returns-then-high-lt-BEND
 returns-then-high-lt-BEND c =
-    let climbed = c.before in
-    one_below (omega arith) (fallen climbed.before.before.before) (end_within (omega arith) climbed.dense_crossing.ensures) c.if-high-lt-BEND.true
+    one_below (omega arith) (end_within (omega arith) c.gas_crossing-high.ensures) (end_within (omega arith) c.dense_crossing-low.ensures) (omega arith)
 
 pub returns-then-low-ge-BEND : goal.returns-then-low-ge-BEND
 returns-then-low-ge-BEND c =
-    let climbed = c.before.before in
-    one_above (omega arith) (fallen climbed.before.before.before) (end_within (omega arith) climbed.dense_crossing.ensures) c.if-high-lt-BEND.false c.if-low-ge-BEND.true
+    one_above (omega arith) (end_within (omega arith) c.gas_crossing-high.ensures) (end_within (omega arith) c.dense_crossing-low.ensures) (omega arith) (omega arith)
 
 pub returns : goal.returns
 returns c =
-    let climbed = c.before.before in
-    one_each (omega arith) (fallen climbed.before.before.before) (end_within (omega arith) climbed.dense_crossing.ensures) c.if-high-lt-BEND.false c.if-low-ge-BEND.false
+    one_each (omega arith) (end_within (omega arith) c.gas_crossing-high.ensures) (end_within (omega arith) c.dense_crossing-low.ensures) (omega arith) (omega arith)

@@ -2,13 +2,13 @@
 -- Assumes nothing.
 use mathlib.Core.Path.{◌≡◌, refl, sym, ◌∙◌}
 use mathlib.Core.Bool.{true, true≢false}
-use lib.Ieee.{Float, nan, inf, fin, binary64, div, isNan, of_bits}
+use lib.Ieee.{Float, nan, inf, fin, binary64, div, is_nan, of_bits}
 use lib.Ieee.Bits.{nan_bits_is, nan_bits_above}
 use borrow.Author.Tests.{lt-ltb, le-ltb}
 use Rattle.heat_points.proofs.double_of.Goals as goal
 
-only_nan : (x : Float) → isNan x ≡ true → nan ≡ x
-unfolding isNan
+only_nan : (x : Float) → is_nan x ≡ true → nan ≡ x
+unfolding is_nan
 only_nan nan is-nan = refl
 only_nan (inf s) is-nan = absurd (true≢false (sym is-nan))
 only_nan (fin s m e) is-nan = absurd (true≢false (sym is-nan))

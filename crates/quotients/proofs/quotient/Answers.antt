@@ -1,7 +1,7 @@
 -- `quotients::quotient` meets its contract: the guess passed both tests, or n was divided. Of the guess it is known that it has 32 bits, so
 -- that the tests' numbers fit, and no more. Assumes nothing.
 use Rattle.std.proofs.Common.{ℕ, ◌*◌, ◌≤◌, ◌<◌, refl, mul-le-mul, arith}
-use Rattle.quotients.proofs.Quotients.{over_zero, between, divided}
+use Rattle.quotients.proofs.Quotients.{over_zero, divided}
 use Rattle.quotients.proofs.quotient.Goals as goal
 
 -- the product of two numbers of 32 bits
@@ -19,9 +19,6 @@ overflow_mul-product c = omega (arith, fits _ _ c.whole_part-guessed.ensures c.r
 
 pub overflow_add-product : goal.overflow_add-product
 overflow_add-product c = omega (arith, fits _ _ c.whole_part-guessed.ensures c.ranges.divisor.fits)
-
-pub returns-then-n-product : goal.returns-then-n-product
-returns-then-n-product c = between (omega arith) (omega arith) (omega arith)
 
 pub nonzero_div-result : goal.nonzero_div-result
 nonzero_div-result c = omega arith

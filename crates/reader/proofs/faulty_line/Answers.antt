@@ -30,5 +30,4 @@ returns-in-Malformed c = (
   refl,
   shows_back _ _ _ _ (Malformed _) c.in-Malformed.is c.read.ensures (omega arith)
       (is_part _ _ c.scan-end.result c.scan-end.ensures),
-
 )

@@ -1,17 +1,13 @@
 -- `reader::state_line` meets its contract: the line that the whole pass kept is line k of the lists that write to the sheet. Assumes nothing.
-use Rattle.reader.specs.Inside.{Counted}
 use Rattle.readings.proofs.Answers.{long_told, fault_told}
 use Rattle.reader.proofs.Answers.{line_found, line_missing}
 use Rattle.reader.proofs.state_line.Goals as goal
 
-found : (c : goal.In-StateLines) → Counted c.args.sheet.now c.args.k c.in-StateLines.state_lines c.survey-found.result.state
-found c = rw c.in-StateLines.is at c.survey-found.ensures
-
 pub returns-then-k-state_lines : goal.returns-then-k-state_lines
-returns-then-k-state_lines c = line_found _ _ (found c.before) c.if-k-state_lines.true
+returns-then-k-state_lines c = line_found _ _ (rw c.in-StateLines.is at c.survey-found.ensures) c.if-k-state_lines.true
 
 pub returns-else-k-state_lines : goal.returns-else-k-state_lines
-returns-else-k-state_lines c = line_missing _ _ (found c.before) c.if-k-state_lines.false
+returns-else-k-state_lines c = line_missing _ _ (rw c.in-StateLines.is at c.survey-found.ensures) c.if-k-state_lines.false
 
 pub returns-in-Malformed : goal.returns-in-Malformed
 returns-in-Malformed c =

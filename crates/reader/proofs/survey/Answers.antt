@@ -1,16 +1,11 @@
-use mathlib.Core.Logic.{⊎_elim}
 use Prim.Native.Nat.{◌-◌}
 use native.Mathlib.Omega.{arith}
 use Rattle.sheets.specs.declared.Next.TheVariants as Next
 use Rattle.sheets.specs.Grammar.{all_sections}
-use Rattle.readings.proofs.Nexts.{NextIn, next_came}
+use Rattle.readings.proofs.Nexts.{next_came}
 use Rattle.sheets.proofs.Walks.{comes_moves}
-use Rattle.reader.proofs.Surveys.{begins, few, walks_here, walks_past, found_all, found_fault}
+use Rattle.reader.proofs.Surveys.{begins, few, walks_on, found_all, found_fault}
 use Rattle.reader.proofs.survey.Goals as goal
-
--- what came next, where it was a state line
-state-came : (c : goal.In-State) → NextIn all_sections c.args.sheet.now c.loop-state.cursor (Next.State c.in-State.state c.in-State.after)
-state-came c = next_came _ _ (Next.State _ _) c.in-State.is c.next.ensures
 
 pub loop-state-init : goal.loop-state-init
 loop-state-init c = rw c.start-cursor.ensures (begins _ _)
@@ -20,14 +15,14 @@ overflow_add-state_lines c = omega (arith, few c.loop-state.invariant)
 
 pub loop-state-smaller : goal.loop-state-smaller
 loop-state-smaller c =
-    let moves = comes_moves _ (state-came c.before).comes in
+    let moves = comes_moves _ (next_came _ _ (Next.State _ _) c.in-State.is c.next.ensures).comes in
     omega (arith, moves.on, moves.inside)
 
 pub loop-state-preserved : goal.loop-state-preserved
 loop-state-preserved c =
     let walked = c.loop-state.invariant in
-    let comes = (state-came c.before).comes in
-    ⊎_elim (λ here. walks_here walked _ _ comes _ here.0.taken here.1) (λ past. walks_past walked _ _ comes _ past.0.left past.1) c.if-state_lines-k.branch
+    let comes = (next_came _ _ (Next.State _ _) c.in-State.is c.next.ensures).comes in
+    walks_on walked _ _ comes _ (grind arith)
 
 pub returns-in-Over : goal.returns-in-Over
 returns-in-Over c = found_all c.loop-state.invariant (next_came _ _ Next.Over c.in-Over.is c.next.ensures)

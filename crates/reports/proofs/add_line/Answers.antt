@@ -4,4 +4,4 @@ use Rattle.reports.proofs.add_line.Goals as goal
 
 pub returns : goal.returns
 returns c =
-    line_added _ c.ask-reply.result c.line_of_text.ensures c.ask-reply.ensures c.figures-figures.ensures c.add.ensures c.plus.ensures
+    line_added c.args.line c.ask-reply.result c.line_of-number.ensures c.ask-reply.ensures c.figures-figures.ensures c.add.ensures c.plus.ensures

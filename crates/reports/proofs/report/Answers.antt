@@ -1,27 +1,22 @@
 use Prim.Native.Nat.{◌-◌}
 use native.Mathlib.Omega.{arith}
 use Rattle.sheets.specs.declared.Next.TheVariants as Next
-use Rattle.sheets.specs.Grammar.{all_sections}
 use Rattle.sheets.proofs.Walks.{comes_moves}
 use Rattle.readings.proofs.Answers.{long_told}
-use Rattle.readings.proofs.Nexts.{NextIn, next_came}
+use Rattle.readings.proofs.Nexts.{next_came}
 use Rattle.reports.proofs.Whole.{begins, walks_on, told_at_end}
 use Rattle.reports.proofs.report.Goals as goal
 
 pub loop-state-init : goal.loop-state-init
 loop-state-init c = rw c.start-cursor.ensures (begins _)
 
--- what came next, where it was a state line
-state-came : (c : goal.In-State) → NextIn all_sections c.args.sheet.now c.loop-state.cursor (Next.State c.in-State.state c.in-State.after)
-state-came c = next_came _ _ (Next.State _ _) c.in-State.is c.next.ensures
-
 pub loop-state-smaller : goal.loop-state-smaller
 loop-state-smaller c =
-    let moves = comes_moves _ (state-came c.before.before.before.before).comes in
+    let moves = comes_moves _ (next_came _ _ (Next.State _ _) c.in-State.is c.next.ensures).comes in
     omega (arith, moves.on, moves.inside)
 
 pub loop-state-preserved : goal.loop-state-preserved
-loop-state-preserved c = walks_on c.loop-state.invariant (state-came c.before.before.before.before).comes c.add_line-state_lines.ensures
+loop-state-preserved c = walks_on c.loop-state.invariant (next_came _ _ (Next.State _ _) c.in-State.is c.next.ensures).comes c.add_line-state_lines.ensures
 
 pub returns-in-Over : goal.returns-in-Over
 returns-in-Over c = rw c.report_of-report.ensures (told_at_end c.loop-state.invariant Next.Over tt (next_came _ _ Next.Over c.in-Over.is c.next.ensures))

@@ -6,15 +6,15 @@ pub loop-line-init : goal.loop-line-init
 loop-line-init c = none_gone _ _ _
 
 pub slice_bounds-rest-count : goal.slice_bounds-rest-count
-slice_bounds-rest-count c = (moves_on c.loop-line.invariant c.take-told.result c.take-told.ensures _ c.in-State.is).0
+slice_bounds-rest-count c = omega (arith, (moves_on c.loop-line.invariant c.take-told.result c.take-told.ensures _ c.in-State.is).0)
 
 pub slice_bounds-rest-start : goal.slice_bounds-rest-start
-slice_bounds-rest-start c = (moves_on c.loop-line.invariant c.take-told.result c.take-told.ensures _ c.in-State.is).0
+slice_bounds-rest-start c = omega (arith, (moves_on c.loop-line.invariant c.take-told.result c.take-told.ensures _ c.in-State.is).0)
 
 pub loop-line-smaller : goal.loop-line-smaller
 loop-line-smaller c =
     let moves = moves_on c.loop-line.invariant c.take-told.result c.take-told.ensures _ c.in-State.is in
-    omega (arith, moves.0, moves.1, c.rest-1.given)
+    omega (arith, moves.0, moves.1)
 
 pub loop-line-preserved : goal.loop-line-preserved
 loop-line-preserved c = one_added c.loop-line.invariant c.take-told.result c.take-told.ensures _ c.in-State.is c.add_line-state_lines.ensures

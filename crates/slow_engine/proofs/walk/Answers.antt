@@ -1,17 +1,8 @@
+use Prim.Native.Nat.{◌<◌}
 use native.Mathlib.Omega.{arith}
-use Rattle.cubic.specs.Cubic.{g, Positive}
 use Rattle.slow_engine.proofs.Room.{test_taken, test_left}
 use Rattle.slow_engine.proofs.Way.{begins, stops_short, arrives, not_at_end, goes_on}
 use Rattle.slow_engine.proofs.walk.Goals as goal
-
-pub returns-then-a-gt-LARGEST_A : goal.returns-then-a-gt-LARGEST_A
-returns-then-a-gt-LARGEST_A c = λ within. omega (arith, within)
-
-pub returns-then-b-gt-LARGEST_B : goal.returns-then-b-gt-LARGEST_B
-returns-then-b-gt-LARGEST_B c = λ within. omega (arith, within)
-
-pub overflow_add-z : goal.overflow_add-z
-overflow_add-z c = omega arith
 
 pub loop-values-init : goal.loop-values-init
 loop-values-init c = begins
@@ -25,25 +16,20 @@ overflow_add-values c = omega (arith, c.loop-values.invariant)
 pub g-requires : goal.g-requires
 g-requires c = (omega arith, omega (arith, c.loop-values.invariant))
 
--- what a turn knows once g is worked out and found positive
-positive : (c : goal.Else-g-le0) → let turn = c.before.before.before in let start = turn.args in Positive (g start.a start.b turn.loop.z)
-positive c =
-    let turn = c.before.before.before in
-    test_left (omega arith) (omega (arith, turn.loop.invariant)) c.g.ensures c.if-g-le0.false
-
 pub overflow_sub-z : goal.overflow_sub-z
-overflow_sub-z c = not_at_end _ _ _ (positive c)
+overflow_sub-z c = not_at_end _ _ _ (test_left (omega arith) (omega (arith, c.loop-values.invariant)) c.g.ensures (cc))
 
 pub loop-values-smaller : goal.loop-values-smaller
-loop-values-smaller c = omega (arith, overflow_sub-z c)
+loop-values-smaller c =
+    let some : 0 < c.loop-values.z = not_at_end _ _ _ (test_left (omega arith) (omega (arith, c.loop-values.invariant)) c.g.ensures (cc)) in
+    omega arith
 
 pub loop-values-preserved : goal.loop-values-preserved
 loop-values-preserved c =
-    let turn = c.before.before.before in
-    goes_on turn.loop.invariant (omega (arith, turn.loop.invariant)) (positive c)
+    goes_on c.loop-values.invariant (omega (arith, c.loop-values.invariant))
+    (test_left (omega arith) (omega (arith, c.loop-values.invariant)) c.g.ensures (cc))
 
 pub returns : goal.returns
 returns c =
-    let turn = c.before.before.before in
-    arrives turn.loop.invariant (omega arith) (omega (arith, turn.loop.invariant))
-    (test_taken (omega arith) (omega (arith, turn.loop.invariant)) c.g.ensures c.if-g-le0.true)
+    arrives c.loop-values.invariant (omega arith) (omega (arith, c.loop-values.invariant))
+    (test_taken (omega arith) (omega (arith, c.loop-values.invariant)) c.g.ensures (cc))

@@ -1,20 +1,14 @@
 -- `state::ask` meets its contract: a refusal is passed on, and the two roots of an accepted state make its answer (`Answering.antt`).
 -- Assumes nothing.
 use mathlib.Core.List.{[]}
-use Rattle.refusals.specs.Checks.{with_value}
-use Rattle.roots.specs.Promise.{Finds}
 use Rattle.state.proofs.Answering.{refused, weighty, answered}
 use Rattle.state.proofs.ask.Goals as goal
-
--- what `roots::find` says of an accepted state
-found : (c : goal.In-Roots) → let start = c.args in Finds start.fluid start.millikelvin start.pascals (with_value (record { fluid = c.in-Roots.fluid; gas = c.in-Roots.gas; dense = c.in-Roots.dense }))
-found c = rw c.in-Roots.is at c.find.ensures
 
 pub returns-in-Refused : goal.returns-in-Refused
 returns-in-Refused c = refused _ _ _ [] _ (rw c.in-Refused.is at c.find.ensures)
 
 pub returns-in-Roots : goal.returns-in-Roots
-returns-in-Roots c = answered _ _ _ [] _ (found c.before) c.answer.ensures
+returns-in-Roots c = answered _ _ _ [] _ (rw c.in-Roots.is at c.find.ensures) c.answer.ensures
 
 pub answer-requires : goal.answer-requires
-answer-requires c = weighty _ _ _ [] _ (found c)
+answer-requires c = weighty _ _ _ [] _ (rw c.in-Roots.is at c.find.ensures)

@@ -1,15 +1,9 @@
 -- `state::ask_side_with_book` meets its contract: a refusal is passed on with the book as it was, and the side's root of an accepted state makes
 -- its answer, the gas root left in the slot (`Answering.antt`). Assumes nothing.
-use Rattle.refusals.specs.Checks.{with_value}
 use Rattle.calls.specs.declared.Form.TheVariants.{Side}
-use Rattle.calls.specs.Promise.{FindsWithBook}
 use Rattle.replies.proofs.Theorems.{side_as, side_refused}
 use Rattle.state.proofs.Answering.{refused_with_book, weighty_with_book, answered_with_book}
 use Rattle.state.proofs.ask_side_with_book.Goals as goal
-
--- what `calls::find_with_book` says of an accepted state
-found : (c : goal.In-Roots) → let start = c.args in FindsWithBook (Side start.side) start.fluid start.millikelvin start.pascals start.slot start.book.now (with_value (record { fluid = c.in-Roots.fluid; gas = c.in-Roots.gas; dense = c.in-Roots.dense })) c.find_with_book.new.1.1.1.1.1.0
-found c = rw c.in-Roots.is at c.find_with_book.ensures
 
 pub returns-in-Refused : goal.returns-in-Refused
 returns-in-Refused c =
@@ -18,11 +12,10 @@ returns-in-Refused c =
 
 pub returns-in-Roots : goal.returns-in-Roots
 returns-in-Roots c =
-    let state = c.before in
-    let start = state.args in
-    side_as (λ whole reported. answered_with_book (Side start.side) _ _ _ _ _ _ _ (found state) reported) c.answer_side.ensures
+    let start = c.args in
+    side_as (λ whole reported. answered_with_book (Side start.side) _ _ _ _ _ _ _ (rw c.in-Roots.is at c.find_with_book.ensures) reported) c.answer_side.ensures
 
 pub answer_side-requires : goal.answer_side-requires
 answer_side-requires c =
     let start = c.args in
-    weighty_with_book (Side start.side) _ _ _ _ _ _ _ (found c)
+    weighty_with_book (Side start.side) _ _ _ _ _ _ _ (rw c.in-Roots.is at c.find_with_book.ensures)

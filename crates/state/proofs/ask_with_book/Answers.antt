@@ -1,21 +1,15 @@
 -- `state::ask_with_book` meets its contract: a refusal is passed on with the book as it was, and the two roots of an accepted state make its
 -- answer, the gas root left in the slot (`Answering.antt`). Assumes nothing.
-use Rattle.refusals.specs.Checks.{with_value}
 use Rattle.calls.specs.declared.Form.TheVariants.{Whole}
-use Rattle.calls.specs.Promise.{FindsWithBook}
 use Rattle.state.proofs.Answering.{refused_with_book, weighty_with_book, answered_with_book}
 use Rattle.state.proofs.ask_with_book.Goals as goal
-
--- what `calls::find_with_book` says of an accepted state
-found : (c : goal.In-Roots) → let start = c.args in FindsWithBook Whole start.fluid start.millikelvin start.pascals start.slot start.book.now (with_value (record { fluid = c.in-Roots.fluid; gas = c.in-Roots.gas; dense = c.in-Roots.dense })) c.find_with_book.new.1.1.1.1.1.0
-found c = rw c.in-Roots.is at c.find_with_book.ensures
 
 pub returns-in-Refused : goal.returns-in-Refused
 returns-in-Refused c =
     refused_with_book Whole _ _ _ _ _ _ _ (rw c.in-Refused.is at c.find_with_book.ensures)
 
 pub returns-in-Roots : goal.returns-in-Roots
-returns-in-Roots c = answered_with_book Whole _ _ _ _ _ _ _ (found c.before) c.answer.ensures
+returns-in-Roots c = answered_with_book Whole _ _ _ _ _ _ _ (rw c.in-Roots.is at c.find_with_book.ensures) c.answer.ensures
 
 pub answer-requires : goal.answer-requires
-answer-requires c = weighty_with_book Whole _ _ _ _ _ _ _ (found c)
+answer-requires c = weighty_with_book Whole _ _ _ _ _ _ _ (rw c.in-Roots.is at c.find_with_book.ensures)

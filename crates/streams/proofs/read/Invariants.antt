@@ -1,6 +1,6 @@
 -- `streams::read` meets its contract. The invariant: what is held lies within the buffer, which keeps its length. The measure is how many calls
 -- may still be made. Assumes nothing.
-use Prim.Native.Nat.{◌≤◌, ◌-◌}
+use Prim.Native.Nat.{◌≤◌}
 use mathlib.Core.Path.{◌≡◌}
 use lib.ListN.{length}
 use Rattle.streams.proofs.read.Given as goal

@@ -1,6 +1,6 @@
 -- `streams::write` meets its contract. The invariant: what was taken lies within the text. The measure is how many calls may still be made.
 -- Assumes nothing.
-use Prim.Native.Nat.{◌≤◌, ◌-◌}
+use Prim.Native.Nat.{◌≤◌}
 use lib.ListN.{length}
 use Rattle.streams.proofs.write.Given as goal
 

@@ -3,16 +3,10 @@
 use mathlib.Core.Path.{refl, ap}
 use native.Mathlib.Omega.{arith}
 use Rattle.viscosity.specs.Factor.{squared}
-use Rattle.viscosity.specs.Replies.{answers, refuses}
+use Rattle.viscosity.specs.Replies.{answers}
 use Rattle.viscosity.proofs.Room.{squares_fit}
 use Rattle.viscosity.proofs.Factors.{fourth_is_above_one, factor_of}
 use Rattle.viscosity.proofs.excess_factor.Goals as goal
-
-pub returns-then-thousandths-lt-THINNEST : goal.returns-then-thousandths-lt-THINNEST
-returns-then-thousandths-lt-THINNEST c = refuses (λ in_range. omega arith) refl
-
-pub returns-then-thousandths-gt-DENSEST : goal.returns-then-thousandths-gt-DENSEST
-returns-then-thousandths-gt-DENSEST c = refuses (λ in_range. omega arith) refl
 
 pub squared-square-requires : goal.squared-square-requires
 squared-square-requires c = omega (arith, squares_fit c.args.thousandths (omega arith))

@@ -9,4 +9,3 @@ use Rattle.wording.proofs.fault_text.Goals as goal
 pub returns : goal.returns
 returns c =
     subst (λ (f : SheetFigures). Written (Fitted SHEET (number_and_place f)) c.line.result) c.figures-figures.ensures c.line.ensures
-

@@ -18,4 +18,3 @@ pub returns : goal.returns
 returns c =
     replied c.ask-reply.result c.ask-reply.ensures c.figures-figures.ensures c.line-2.ensures
     (λ text is_text. rw (eq-eqb _ _ c.if-number-ne0.false, ne_eqb _ _ c.if-kind-eq-ONE.false) is_text)
-

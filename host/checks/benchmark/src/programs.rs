@@ -5,7 +5,7 @@ use std::fs::File;
 use std::process::Command;
 
 /// From the repository's root.
-const PROVED: &str = "target/bin/sheet";
+const PROVED: &str = "crates/sheet/out/sheet";
 const SECOND: &str = "target/host/release/sheet";
 const FULL_SHEET: &str = "host/checks/sheets/full.in";
 

@@ -8,7 +8,6 @@ use Rattle.refusals.specs.declared.Refusal.TheVariants.{RootDiffers}
 use Rattle.fluid.specs.declared.choice.Fluid.{Fluid}
 use Rattle.replies.specs.Sides.{for_side}
 use Rattle.roots.specs.declared.Finding.{Finding}
-use Rattle.roots.specs.declared.Finding.TheVariants as Finding
 use Rattle.roots.specs.Promise.{finding}
 use Rattle.calls.specs.declared.Form.TheVariants.{Side}
 use Rattle.calls.specs.Promise.{FindsAs}

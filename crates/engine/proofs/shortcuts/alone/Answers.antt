@@ -10,9 +10,10 @@ use Rattle.cubic.specs.Sides.{plus, minus, farthest}
 use Rattle.cubic.proofs.Widths.{monomials}
 use Rattle.cubic.proofs.Spared.{on_grid, not_positive_below}
 use Rattle.engine.proofs.shortcuts.alone.Goals as goal
+use Rattle.engine.proofs.shortcuts.alone.Goals.{Else-gas-lt-BEND}
 
 -- the search from above found a crossing, which lies on the grid
-found : (c : goal.Else-gas-lt-BEND) → plus c.args.a c.args.gas ≤ minus c.args.a c.args.b c.args.gas
+found : (c : Else-gas-lt-BEND) → plus c.args.a c.args.gas ≤ minus c.args.a c.args.b c.args.gas
 found c = c.requires.1.found c.if-gas-lt-BEND.false
 
 small : (c : goal.After-left_to_grid-sum) → c.left_to_grid-sum.result ≤ N
@@ -41,10 +42,9 @@ overflow_mul-result-5 c = omega (arith, monomials {z = 0} c.requires.0 (omega ar
 
 pub returns : goal.returns
 returns c said =
-    let start = c.before.before in
     record {
       from_bend = c.if-gas-lt-BEND.false;
       not_positive =
-          not_positive_below start.args.a start.args.b start.args.gas c.left_to_grid-sum.result
+          not_positive_below c.args.a c.args.b c.args.gas c.left_to_grid-sum.result
           (omega (arith, c.left_to_grid-sum.ensures)) (omega (arith, leb-true)) (omega arith) (found c.before);
     }

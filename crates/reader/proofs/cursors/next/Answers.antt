@@ -9,25 +9,25 @@ use Rattle.sheets.proofs.Meets.{stands_as}
 use Rattle.readings.proofs.Nexts.{long_next, told_next}
 use Rattle.reader.proofs.cursors.next.Goals as goal
 
-count-line : (c : goal.In-Count) → CountLine all_sections c.args.sheet.now c.loop-after.cursor c.in-Count.after
-count-line c = stands_as _ _ _ (Count _) (sym c.in-Count.is ∙ c.line_at_lem.ensures)
+count_line : (c : goal.In-Count) → CountLine all_sections c.args.sheet.now c.loop-after.cursor c.in-Count.after
+count_line c = stands_as _ _ _ (Count _) (sym c.in-Count.is ∙ c.line_at.ensures)
 
-here-line : (c : goal.In-Told) → Here all_sections c.args.sheet.now c.loop-after.cursor c.in-Told.next
-here-line c = stands_as _ _ _ (Told _) (sym c.in-Told.is ∙ c.line_at_lem.ensures)
+here_line : (c : goal.In-Told) → Here all_sections c.args.sheet.now c.loop-after.cursor c.in-Told.next
+here_line c = stands_as _ _ _ (Told _) (sym c.in-Told.is ∙ c.line_at.ensures)
 
 pub returns-then-sheet-gt-MOST_BYTES : goal.returns-then-sheet-gt-MOST_BYTES
-returns-then-sheet-gt-MOST_BYTES c = long_next _ _ c.if-sheet-gt-MOST_BYTES.true
+returns-then-sheet-gt-MOST_BYTES c = long_next _ _ (omega arith)
 
 pub loop-after-init : goal.loop-after-init
 loop-after-init c = λ next comes. comes
 
 pub loop-after-smaller : goal.loop-after-smaller
-loop-after-smaller c = omega (arith, (count-line c).wanted, ap (λ (cursor : Cursor). cursor.begun) (count-line c).moves)
+loop-after-smaller c = omega (arith, (count_line c).wanted, ap (λ (cursor : Cursor). cursor.begun) (count_line c).moves)
 
 pub loop-after-preserved : goal.loop-after-preserved
-loop-after-preserved c = λ next comes. c.loop-after.invariant next (behind_count (count-line c) comes)
+loop-after-preserved c = λ next comes. c.loop-after.invariant next (behind_count (count_line c) comes)
 
 pub returns-in-Told : goal.returns-in-Told
 returns-in-Told c =
-    told_next _ _ c.in-Told.next c.if-sheet-gt-MOST_BYTES.false
-    (c.loop-after.invariant _ (here (here-line c)))
+    told_next _ _ c.in-Told.next (omega arith)
+    (c.loop-after.invariant _ (here (here_line c)))
