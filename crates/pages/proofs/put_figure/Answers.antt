@@ -1,10 +1,9 @@
 -- `pages::put_figure` meets its contract: what is put into the cell are the digits that were written. Assumes nothing.
-use mathlib.Core.Path.{sym, ap}
+use mathlib.Core.Path.{ap}
 use native.Mathlib.Omega.{arith}
-use lib.Seq.{length-take-le}
 use Rattle.pages.specs.Columns.{cell_columns, right_aligned}
 use Rattle.pages.proofs.Filling.{same_fills}
-use Rattle.pages.proofs.Figures.{Written, writes}
+use Rattle.pages.proofs.Figures.{writes}
 use Rattle.pages.proofs.put_figure.Goals as goal
 
 pub slice_bounds-text-end : goal.slice_bounds-text-end

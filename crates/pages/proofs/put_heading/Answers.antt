@@ -1,7 +1,6 @@
 -- `pages::put_heading` meets its contract: its parts, one behind another. Assumes nothing.
 use mathlib.Core.Path.{refl}
 use native.Mathlib.Omega.{arith}
-use borrow.Author.Rules.{rules}
 use Rattle.pages.specs.Pages.{heading}
 use Rattle.pages.proofs.Filling.{line_fills}
 use Rattle.pages.proofs.put_heading.Goals as goal

@@ -1,6 +1,5 @@
 -- `pages::put_kinds` meets its contract: its rows, one behind another. Assumes nothing.
 use mathlib.Core.Path.{refl}
-use borrow.Author.Rules.{rules}
 use Rattle.pages.proofs.Rows.{row_before, no_rows}
 use Rattle.pages.proofs.put_kinds.Goals as goal
 

@@ -1,5 +1,4 @@
 -- `pages::put_reached` meets its contract: its two rows, one behind another. Assumes nothing.
-use borrow.Author.Rules.{rules}
 use Rattle.pages.proofs.Filling.{both_fill}
 use Rattle.pages.proofs.put_reached.Goals as goal
 

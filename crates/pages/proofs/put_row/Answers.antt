@@ -1,7 +1,6 @@
 -- `pages::put_row` meets its contract: its parts, one behind another. Assumes nothing.
 use mathlib.Core.Path.{refl}
 use native.Mathlib.Omega.{arith}
-use borrow.Author.Rules.{rules}
 use Rattle.pages.specs.Pages.{row_text}
 use Rattle.pages.proofs.Filling.{line_fills}
 use Rattle.pages.proofs.put_row.Goals as goal

@@ -1,6 +1,5 @@
 -- `wording::fault_text` meets its contract: the line is made of the figures of the fault. Assumes nothing.
 use mathlib.Core.Path.{subst}
-use borrow.Author.Rules.{rules}
 use Rattle.readings.specs.declared.SheetFigures.{SheetFigures}
 use Rattle.texts.specs.Buffer.{Written, Fitted}
 use Rattle.wording.specs.Wording.{SHEET, number_and_place}

@@ -1,6 +1,5 @@
 -- `wording::state_text` meets its contract: the line is that of the reply, by its number and kind. Assumes nothing.
 use borrow.Author.Tests.{eq-eqb, ne_eqb}
-use borrow.Author.Rules.{rules}
 use Rattle.wording.proofs.Replied.{replied}
 use Rattle.wording.proofs.state_text.Goals as goal
 
