@@ -149,7 +149,9 @@ pub fn tell<R: Eprint>(rt: &R, what: &str, why: &Option<io::Error>) -> io::Resul
 
 fn tell_why<R: Eprint>(rt: &R, what: &str, why: &io::Error) -> io::Result<()> {
     let mut cursor = Cursor::new([0u8; ROOM]);
-    write!(cursor, "{why}")?;
+    if write!(cursor, "{why}").is_err() {
+        return eprintln!(rt; "{what}");
+    }
     let end = (cursor.position() as usize).min(ROOM);
     let room = cursor.into_inner();
     match std::str::from_utf8(&room[..end]) {
