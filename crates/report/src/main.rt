@@ -4,21 +4,24 @@
 
 use pages::PAGE_BYTES;
 use report_printing::print;
-use std::io;
 
-fn main(rt: HostRuntime) -> io::Result<()> {
+fn main(rt: HostRuntime) {
     // One byte more than a sheet may have, so that a longer one is told.
     let mut input = [0u8; 65_537];
     let mut why = None;
     let read = streams::read(&mut rt.stdin(), &mut input, &mut why);
     if read.failed {
-        return streams::tell(&rt, "report: the sheet was not read", &why);
+        streams::tell(&mut rt.stderr(), b"report: the sheet was not read", &why);
+        return;
     }
     let held = read.held;
     let mut text = [0u8; PAGE_BYTES];
     let written = print(&input[..held], &mut text);
     if streams::write(&mut rt.stdout(), &text[..written], &mut why) < written {
-        return streams::tell(&rt, "report: not all of the page was written", &why);
+        streams::tell(
+            &mut rt.stderr(),
+            b"report: not all of the page was written",
+            &why,
+        );
     }
-    Ok(())
 }

@@ -3,21 +3,24 @@
 #![tactic(auto)]
 
 use printing::{LONGEST_TEXT, print};
-use std::io;
 
-fn main(rt: HostRuntime) -> io::Result<()> {
+fn main(rt: HostRuntime) {
     // One byte more than a sheet may have, so that a longer one is told.
     let mut input = [0u8; 65_537];
     let mut why = None;
     let read = streams::read(&mut rt.stdin(), &mut input, &mut why);
     if read.failed {
-        return streams::tell(&rt, "sheet: the sheet was not read", &why);
+        streams::tell(&mut rt.stderr(), b"sheet: the sheet was not read", &why);
+        return;
     }
     let held = read.held;
     let mut text = [0u8; LONGEST_TEXT];
     let written = print(&input[..held], &mut text);
     if streams::write(&mut rt.stdout(), &text[..written], &mut why) < written {
-        return streams::tell(&rt, "sheet: not all answers were written", &why);
+        streams::tell(
+            &mut rt.stderr(),
+            b"sheet: not all answers were written",
+            &why,
+        );
     }
-    Ok(())
 }

@@ -1,3 +1,4 @@
 -- What the proofs of the functions use, and what is proved beside the contracts.
 pub mod Calls
+pub mod Faults
 pub mod Theorems

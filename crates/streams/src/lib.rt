@@ -2,13 +2,16 @@
 // moves a part of the bytes is followed by another.
 #![tactic(auto)]
 
-ghost use Rattle.std.specs.Prelude.{◌≡◌, ◌<◌, ◌^◌, ◌↔◌, IfOk, IsErrAnd, IsTrue};
+ghost use Rattle.std.specs.Prelude.{◌≡◌, ◌<◌, ◌≤◌, ◌^◌, ◌↔◌, IfOk, IsErrAnd, IsTrue};
 ghost use Rattle.std.specs.IoError.{error_kind};
 ghost use Rattle.io.specs.Counts.{IsPrefixLen};
+ghost use Rattle.buffers.specs.Puts.{Puts};
 ghost use Rattle.streams.specs.Streams.{call_of, got_of, NothingOfAFailure};
+ghost use Rattle.streams.specs.Faults.{fault_text, room_for_a_reason, longest_fault};
 
+use buffers::put;
 use std::io;
-use std::io::{Cursor, Eprint, ErrorKind, Read, Write};
+use std::io::{Cursor, ErrorKind, Read, Write};
 
 // What one call came to: it moved so many bytes, or none, as at the end of an input; a signal came first;
 // or it can't.
@@ -37,6 +40,15 @@ const FAILED_INPUT: Input = Input {
 
 // Room for the system's words for any error.
 const ROOM: usize = 256;
+
+// Room for the line that says what failed and why.
+const LONGEST_FAULT: usize = 512;
+
+// Two bytes between what failed and why, and the line's end.
+const AROUND: usize = 3;
+
+// Where nothing failed, and the system took no more bytes all the same.
+const NO_REASON: &[u8] = b"no more was taken";
 
 // What std tells of a call as C's call answered it: a count, or a number below 0, and whether errno then said that a
 // signal came.
@@ -139,26 +151,58 @@ pub fn write<W: Write>(output: &mut W, text: &[u8], why: &mut Option<io::Error>)
     taken
 }
 
-// Tells in a line on standard error what failed, and why in the system's words, without the error's number.
-pub fn tell<R: Eprint>(rt: &R, what: &str, why: &Option<io::Error>) -> io::Result<()> {
-    match why {
-        Some(why) => tell_why(rt, what, why),
-        None => eprintln!(rt; "{what}"),
+// Puts the line that says what failed and why at the start of a buffer, and answers its length. Where it has no room,
+// nothing is written.
+pub fn fault_line(what: &[u8], why: &[u8], line: &mut [u8]) -> usize
+    ensures { Puts (fault_text what.now why.now) line.old 0 line.new result }
+{
+    let room = line.len();
+    if room < what.len() {
+        return 0;
+    }
+    if room - what.len() < why.len() {
+        return 0;
+    }
+    if room - what.len() - why.len() < AROUND {
+        return 0;
+    }
+    let what_end = put(line, 0, what);
+    let why_begins = put(line, what_end, b": ");
+    let why_end = put(line, why_begins, why);
+    put(line, why_end, b"\n")
+}
+
+// The system's words for an error, without its number, at the start of the buffer; where it has none, ours.
+fn reason(why: &Option<io::Error>, room: &mut [u8; ROOM]) -> usize
+    ensures { result ≤ room_for_a_reason }
+{
+    let mut cursor = Cursor::new([0u8; ROOM]);
+    let named = match why {
+        Some(why) => write!(cursor, "{why}").is_ok(),
+        None => false,
+    };
+    if !named {
+        return put(room, 0, NO_REASON).min(ROOM);
+    }
+    let end = (cursor.position() as usize).min(ROOM);
+    let words = cursor.into_inner();
+    match std::str::from_utf8(&words[..end]) {
+        Ok(text) => match text.rsplit_once(" (os error ") {
+            Some((words, _)) => put(room, 0, words.as_bytes()).min(ROOM),
+            None => put(room, 0, text.as_bytes()).min(ROOM),
+        },
+        Err(_) => put(room, 0, NO_REASON).min(ROOM),
     }
 }
 
-fn tell_why<R: Eprint>(rt: &R, what: &str, why: &io::Error) -> io::Result<()> {
-    let mut cursor = Cursor::new([0u8; ROOM]);
-    if write!(cursor, "{why}").is_err() {
-        return eprintln!(rt; "{what}");
-    }
-    let end = (cursor.position() as usize).min(ROOM);
-    let room = cursor.into_inner();
-    match std::str::from_utf8(&room[..end]) {
-        Ok(text) => match text.rsplit_once(" (os error ") {
-            Some((words, _)) => eprintln!(rt; "{what}: {words}"),
-            None => eprintln!(rt; "{what}: {text}"),
-        },
-        Err(_) => eprintln!(rt; "{what}"),
-    }
+// Writes the line that says what failed, and answers how many of its bytes the system took.
+pub fn tell<W: Write>(errors: &mut W, what: &[u8], why: &Option<io::Error>) -> usize
+    ensures { result ≤ longest_fault }
+{
+    let mut room = [0u8; ROOM];
+    let words = reason(why, &mut room);
+    let mut line = [0u8; LONGEST_FAULT];
+    let length = fault_line(what, &room[..words], &mut line);
+    let mut unheard = None;
+    write(errors, &line[..length.min(LONGEST_FAULT)], &mut unheard)
 }
