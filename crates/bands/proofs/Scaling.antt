@@ -12,11 +12,7 @@ use Rattle.bands.specs.Scalings.{scaled, least, most, NotAllowed, Allowed}
 use Rattle.bands.specs.Inside.{Scalable}
 
 pub allowed_is_not_refused : {lower upper : ℕ} → Allowed lower upper → NotAllowed lower upper → ⊥
-allowed_is_not_refused allowed (inl (inl below)) = omega (arith, allowed)
-allowed_is_not_refused allowed (inl (inr above)) = omega (arith, allowed)
-allowed_is_not_refused allowed (inr (inl (inl below))) = omega (arith, allowed)
-allowed_is_not_refused allowed (inr (inl (inr above))) = omega (arith, allowed)
-allowed_is_not_refused allowed (inr (inr reversed)) = omega (arith, allowed)
+allowed_is_not_refused allowed not_allowed = grind (arith, allowed, not_allowed)
 
 pub allowed_or_not : (lower upper : ℕ) → Allowed lower upper ⊎ NotAllowed lower upper
 allowed_or_not lower upper = by_tests (dec_le least lower) (dec_le lower upper) (dec_le upper most)

@@ -4,7 +4,9 @@ use mathlib.Core.Path.{◌≡◌, refl, sym, ap, ap₂, ◌∙◌}
 use mathlib.Core.Logic.{◌⊎◌, inl, inr, ◌↔◌}
 use Prim.Native.Nat.{ℕ, ◌≤◌}
 use native.Mathlib.Nat.{le_refl, le_antisymm}
+use Rattle.std.specs.Prelude.{Result, Ok, Err}
 use Rattle.refusals.specs.Checks.{NoneOf, FirstOf}
+use Rattle.refusals.specs.declared.Refusal.{Refusal}
 use Rattle.refusals.specs.declared.Refusal.TheVariants.{ScalingOutOfRange}
 use Rattle.refusals.specs.Numbers.{number_of_refusal}
 use Rattle.refusals.proofs.Lists.{none_behind}
@@ -14,8 +16,7 @@ use Rattle.cubic.proofs.Attraction.{gas_falls_as_a_grows}
 use Rattle.fluid.specs.Checks.{state_checks}
 use Rattle.fluid.proofs.Accepting.{state_decided}
 use Rattle.fluid.proofs.Theorems.{reached_once, reached_exists}
-use Rattle.bands.specs.declared.replies.BandReply.{BandReply}
-use Rattle.bands.specs.declared.replies.BandReply.TheVariants.{Ends, Refused}
+use Rattle.bands.specs.declared.replies.Band.{Band}
 use Rattle.bands.specs.declared.replies.BandFigures.{BandFigures}
 use Rattle.bands.specs.Scalings.{scaled, ScaledGasRoot, NotAllowed, scaling_checks, all_checks, Allowed}
 use Rattle.bands.specs.Replies.{answered_with, refused_with, figures_of, Answered, Replies}
@@ -31,18 +32,20 @@ lower_in figures = figures.at_lower
 abbrev upper_in : BandFigures → ℕ
 upper_in figures = figures.at_upper
 
+abbrev band_of : (at_lower at_upper : ℕ) → Band
+band_of at_lower at_upper = record { at_lower = at_lower; at_upper = at_upper }
+
 made : (number at_lower at_upper : ℕ) → BandFigures
 made number at_lower at_upper = record { number = number; at_lower = at_lower; at_upper = at_upper }
 
 -- figures have one reply, and a reply one set of figures
-pub figures_determine_band_reply : (r s : BandReply) → figures_of r ≡ figures_of s → r ≡ s
-figures_determine_band_reply (Ends at_lower at_upper) (Ends at_lower' at_upper') same = ap₂ Ends (ap lower_in same) (ap upper_in same)
-figures_determine_band_reply (Ends at_lower at_upper) (Refused refusal) same = absurd (never_zero refusal (sym (ap number_in same)))
-figures_determine_band_reply (Refused refusal) (Ends at_lower at_upper) same = absurd (never_zero refusal (ap number_in same))
-figures_determine_band_reply (Refused refusal) (Refused refusal') same =
-    ap Refused (number_determines_refusal refusal refusal' (ap number_in same))
+pub figures_determine_band_reply : (r s : Result Band Refusal) → figures_of r ≡ figures_of s → r ≡ s
+figures_determine_band_reply (Ok band) (Ok band') same = ap₂ (λ at_lower at_upper. Ok (band_of at_lower at_upper)) (ap lower_in same) (ap upper_in same)
+figures_determine_band_reply (Ok band) (Err refusal) same = absurd (never_zero refusal (sym (ap number_in same)))
+figures_determine_band_reply (Err refusal) (Ok band) same = absurd (never_zero refusal (ap number_in same))
+figures_determine_band_reply (Err refusal) (Err refusal') same = ap Err (number_determines_refusal refusal refusal' (ap number_in same))
 
-pub band_figures_determined : (reply : BandReply) {f g : BandFigures} → f ≡ figures_of reply → g ≡ figures_of reply → f ≡ g
+pub band_figures_determined : (reply : Result Band Refusal) {f g : BandFigures} → f ≡ figures_of reply → g ≡ figures_of reply → f ≡ g
 band_figures_determined reply p q = p ∙ sym q
 
 module _ (number millikelvin pascals : ℕ) where
@@ -75,20 +78,20 @@ module _ (number millikelvin pascals : ℕ) where
     pub told_once : (f g : BandFigures) → Replies number millikelvin pascals lower upper f → Replies number millikelvin pascals lower upper g → f ≡ g
     told_once = tells_once (all_checks number millikelvin pascals lower upper) (λ refusal f g p q. p ∙ sym q) answered_once
 
-    pub band_determined : (r s : BandReply) → Replies number millikelvin pascals lower upper (figures_of r) → Replies number millikelvin pascals lower upper (figures_of s) → r ≡ s
+    pub band_determined : (r s : Result Band Refusal) → Replies number millikelvin pascals lower upper (figures_of r) → Replies number millikelvin pascals lower upper (figures_of s) → r ≡ s
     band_determined r s p q = figures_determine_band_reply r s (told_once (figures_of r) (figures_of s) p q)
 
     -- every band has a reply
-    pub every_band_has_a_reply : (reply : BandReply) × Replies number millikelvin pascals lower upper (figures_of reply)
+    pub every_band_has_a_reply : (reply : Result Band Refusal) × Replies number millikelvin pascals lower upper (figures_of reply)
     every_band_has_a_reply = by_checks (first_or_none (state_checks number millikelvin pascals) (state_decided number millikelvin pascals)) (allowed_or_not lower upper)
       where
-        by_checks : First (state_checks number millikelvin pascals) ⊎ NoneOf (state_checks number millikelvin pascals) → Allowed lower upper ⊎ NotAllowed lower upper → (reply : BandReply) × Replies number millikelvin pascals lower upper (figures_of reply)
-        by_checks (inl first) scalings = (Refused first.0, tells_of_state number millikelvin pascals lower upper (number_of_refusal first.0) first.1)
-        by_checks (inr none) (inr not_allowed) = (Refused ScalingOutOfRange, tells_of_scalings number millikelvin pascals lower upper none not_allowed)
+        by_checks : First (state_checks number millikelvin pascals) ⊎ NoneOf (state_checks number millikelvin pascals) → Allowed lower upper ⊎ NotAllowed lower upper → (reply : Result Band Refusal) × Replies number millikelvin pascals lower upper (figures_of reply)
+        by_checks (inl first) scalings = (Err first.0, tells_of_state number millikelvin pascals lower upper (number_of_refusal first.0) first.1)
+        by_checks (inr none) (inr not_allowed) = (Err ScalingOutOfRange, tells_of_scalings number millikelvin pascals lower upper none not_allowed)
         by_checks (inr none) (inl allowed) =
             let at_lower = scaled_gas_root_exists none lower in
             let at_upper = scaled_gas_root_exists none upper in
-            (Ends at_lower.0 at_upper.0, tells_ends number millikelvin pascals lower upper none allowed at_lower.1 at_upper.1)
+            (Ok (band_of at_lower.0 at_upper.0), tells_ends number millikelvin pascals lower upper none allowed at_lower.1 at_upper.1)
 
     module _ (figures : BandFigures) (replies : Replies number millikelvin pascals lower upper figures) where
       answered : figures.number ≡ 0 → Allowed lower upper × Answered number millikelvin pascals lower upper figures

@@ -1,9 +1,9 @@
 -- docs/RULES.md, "The band": what comes back of a band, and when. A refusal brings its number and zeros.
-use Rattle.std.specs.Prelude.{◌≡◌, ℕ}
+use Rattle.std.specs.Prelude.{◌≡◌, ℕ, Result, Ok, Err}
 use Rattle.refusals.specs.Checks.{Tells}
 use Rattle.refusals.specs.Numbers.{number_of_refusal}
-use Rattle.bands.specs.declared.replies.BandReply.{BandReply}
-use Rattle.bands.specs.declared.replies.BandReply.TheVariants.{Ends, Refused}
+use Rattle.refusals.specs.declared.Refusal.{Refusal}
+use Rattle.bands.specs.declared.replies.Band.{Band}
 use Rattle.bands.specs.declared.replies.BandFigures.{BandFigures}
 use Rattle.bands.specs.Scalings.{ScaledGasRoot, all_checks}
 
@@ -13,9 +13,9 @@ answered_with at_lower at_upper = record { number = 0; at_lower = at_lower; at_u
 abbrev pub refused_with : (refusal : ℕ) → BandFigures
 refused_with refusal = record { number = refusal; at_lower = 0; at_upper = 0 }
 
-abbrev pub figures_of : BandReply → BandFigures
-figures_of (Ends at_lower at_upper) = answered_with at_lower at_upper
-figures_of (Refused refusal) = refused_with (number_of_refusal refusal)
+abbrev pub figures_of : Result Band Refusal → BandFigures
+figures_of (Ok band) = answered_with band.at_lower band.at_upper
+figures_of (Err refusal) = refused_with (number_of_refusal refusal)
 
 abbrev pub NumberAndZeros : (refusal : ℕ) → BandFigures → Type 0
 NumberAndZeros refusal figures = figures ≡ refused_with refusal

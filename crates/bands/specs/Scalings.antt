@@ -3,7 +3,8 @@ use Rattle.std.specs.Prelude.{◌⊎◌, List, [], ◌∷◌, ◌++◌, ℕ, ◌
 use Rattle.refusals.specs.Checks.{Check, ◌if◌}
 use Rattle.cubic.specs.Cubic.{GasRoot}
 use Rattle.fluid.specs.Checks.{state_checks}
-use Rattle.fluid.specs.Promise.{Reached, Reaches}
+use Rattle.fluid.specs.declared.coefficients.Reached.{Reached}
+use Rattle.fluid.specs.Promise.{Reaches}
 
 -- a in so many thousandths of itself, rounded down
 unfoldable pub scaled : (a thousandths : ℕ) → ℕ

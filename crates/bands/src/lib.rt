@@ -9,10 +9,9 @@ ghost use Rattle.bands.specs.Scalings.{scaled};
 ghost use Rattle.bands.specs.Replies.{Replies, figures_of};
 ghost use Rattle.bands.specs.Inside.{Stand, Scalable};
 
-use engine::Solution;
-use fluid::Reduction;
+use fluid::Reduced;
 use refusals::Refusal;
-pub use replies::{BandFigures, BandReply};
+pub use replies::{Band, BandFigures, BandReply};
 
 // The ends of a scaling's range, in thousandths.
 const LEAST: u64 = 500;
@@ -36,31 +35,28 @@ fn stand(lower: u64, upper: u64) -> bool
     true
 }
 
-// The a of an accepted state is within the cubic's bounds at every scaling, so the last arm is never met.
+// The a of an accepted state is within the cubic's bounds at every scaling.
+#[tactic(auto, using(crate::proofs::Scaling::product_at_most, crate::proofs::Scaling::within_bounds), unfolding(crate::specs::Scalings::scaled))]
 fn gas_root(a: u64, b: u64, thousandths: u64, start: u64) -> u64
     requires { Scalable a b thousandths }
     ensures { GasRoot (scaled a thousandths) b result }
 {
-    match engine::solve(a * thousandths / 1_000, b, start) {
-        Solution::Roots { gas, dense: _ } => gas,
-        Solution::OutOfBounds => 0,
-    }
+    let roots = engine::solve(a * thousandths / 1_000, b, start).unwrap();
+    roots.gas
 }
 
 // The scalings are looked at where nothing refuses the state, so that 13 is told last. The second search has
 // the first root to try, which it is where the scalings are equal.
+#[tactic(auto, using(fluid::proofs::Theorems::coefficients_at_most))]
 pub fn band(fluid: u64, millikelvin: u64, pascals: u64, lower: u64, upper: u64) -> BandReply
     ensures { Replies fluid millikelvin pascals lower upper (figures_of result) }
 {
-    match fluid::reduce(fluid, millikelvin, pascals) {
-        Reduction::Refused(refusal) => BandReply::Refused(refusal),
-        Reduction::To { fluid: _, reduced } => {
-            if stand(lower, upper) {
-                let at_lower = gas_root(reduced.a, reduced.b, lower, 0);
-                let at_upper = gas_root(reduced.a, reduced.b, upper, at_lower);
-                return BandReply::Ends { at_lower, at_upper };
-            }
-            BandReply::Refused(Refusal::ScalingOutOfRange)
-        }
+    let reached = fluid::reduce(fluid, millikelvin, pascals)?;
+    if !stand(lower, upper) {
+        return Err(Refusal::ScalingOutOfRange);
     }
+    let Reduced { a, b, .. } = reached.reduced;
+    let at_lower = gas_root(a, b, lower, 0);
+    let at_upper = gas_root(a, b, upper, at_lower);
+    Ok(Band { at_lower, at_upper })
 }

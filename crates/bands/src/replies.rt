@@ -6,11 +6,14 @@ use refusals::Refusal;
 
 // The gas root at the lower scaling and at the upper, in hundred-thousandths.
 #[derive(Clone, Copy)]
-pub enum BandReply {
-    Ends { at_lower: u64, at_upper: u64 },
-    Refused(Refusal),
+pub struct Band {
+    pub at_lower: u64,
+    pub at_upper: u64,
 }
 
+pub type BandReply = Result<Band, Refusal>;
+
+// As C gets them: a number, 0 for an answer, and zeros where refused.
 #[derive(Clone, Copy)]
 pub struct BandFigures {
     pub number: u64,
@@ -18,17 +21,17 @@ pub struct BandFigures {
     pub at_upper: u64,
 }
 
-impl BandReply {
-    pub fn figures(self) -> BandFigures
-        ensures { result ≡ figures_of self }
-    {
-        match self {
-            BandReply::Ends { at_lower, at_upper } => BandFigures {
+impl From<BandReply> for BandFigures {
+    ghost from_gives = { λ reply figures. figures ≡ figures_of reply };
+
+    fn from(reply: BandReply) -> BandFigures {
+        match reply {
+            Ok(Band { at_lower, at_upper }) => BandFigures {
                 number: 0,
                 at_lower,
                 at_upper,
             },
-            BandReply::Refused(refusal) => BandFigures {
+            Err(refusal) => BandFigures {
                 number: refusal.number(),
                 at_lower: 0,
                 at_upper: 0,

@@ -1,14 +1,15 @@
 -- What is proved of the book in bytes: what is written into a slot reads back, no byte of another slot is touched, and the promises of `start_in`
 -- and `leave` fix their answers. Assumes nothing.
-use mathlib.Core.Path.{◌≡◌, refl, sym, ◌∙◌}
+use mathlib.Core.Path.{◌≡◌, refl, sym, ap, ◌∙◌}
 use mathlib.Core.Logic.{◌≢◌, inl, inr}
-use mathlib.Core.Bool.{Bool, true, false}
 use mathlib.Core.List.{List}
 use Prim.Native.Nat.{ℕ, ◌+◌, ◌*◌, ◌/◌, ◌%◌, ◌<◌}
 use native.Mathlib.Decide.{ℕ_discrete}
 use native.Mathlib.Omega.{arith}
 use lib.ListN.{length, get_or, set, length-set}
 use lib.Seq.{get_or-set_same, get_or-set_other, ext_get_or}
+use Rattle.std.specs.Prelude.{Result, Ok, Err}
+use Rattle.refusals.specs.declared.Refusal.{Refusal}
 use Rattle.books.specs.Layouts.{HasSlot}
 use Rattle.books.specs.Bytes.{three_byte_numbers, in_bytes}
 use Rattle.books.specs.Promise.{Starts, Leaves}
@@ -88,8 +89,8 @@ start_determined book slot start other (inr p) (inl q) = absurd (p.0 q.0)
 start_determined book slot start other (inr p) (inr q) = p.1 ∙ sym q.1
 
 -- and so are two that keep what `leave` promises, with the books they leave
-pub leaving_determined : (before : List ℕ) (slot root : ℕ) {after after' : List ℕ} (there there' : Bool) → Leaves before slot root after there → Leaves before slot root after' there' → (there ≡ there') × (after ≡ after')
-leaving_determined before slot root true true p q = (refl, p.1 ∙ sym q.1)
-leaving_determined before slot root true false p q = absurd (q.0 p.0)
-leaving_determined before slot root false true p q = absurd (p.0 q.0)
-leaving_determined before slot root false false p q = (refl, p.1 ∙ sym q.1)
+pub leaving_determined : (before : List ℕ) (slot root : ℕ) {after after' : List ℕ} (r s : Result (Unit {0}) Refusal) → Leaves before slot root after r → Leaves before slot root after' s → (r ≡ s) × (after ≡ after')
+leaving_determined before slot root (Ok left) (Ok left') p q = (refl, p.1 ∙ sym q.1)
+leaving_determined before slot root (Ok left) (Err refusal) p q = absurd (q.0 p.0)
+leaving_determined before slot root (Err refusal) (Ok left) p q = absurd (p.0 q.0)
+leaving_determined before slot root (Err refusal) (Err refusal') p q = (ap Err (p.1 ∙ sym q.1), p.2 ∙ sym q.2)

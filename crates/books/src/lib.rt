@@ -8,6 +8,8 @@ ghost use Rattle.books.specs.Layouts.{HasSlot};
 ghost use Rattle.books.specs.Bytes.{in_bytes};
 ghost use Rattle.books.specs.Promise.{Starts, Leaves};
 
+use refusals::Refusal;
+
 // A book has 64 slots.
 pub const BOOK_BYTES: usize = 192;
 
@@ -15,21 +17,15 @@ const LAST_SLOT: u64 = 63;
 
 const SLOT_BYTES: usize = 3;
 
-fn wide(byte: u8) -> u64
-    ensures { (result ≡ byte) × (result < 256) }
-{
-    byte as u64
-}
-
 // What the three bytes of a slot that there is say.
 fn said(book: &[u8], slot: u64) -> u64
     requires { HasSlot in_bytes slot (length book.now) }
     ensures { result ≡ in_bytes.says book.now slot }
 {
     let first = SLOT_BYTES * slot as usize;
-    let low = wide(book[first]);
-    let middle = wide(book[first + 1]);
-    let high = wide(book[first + 2]);
+    let low = u64::from(book[first]);
+    let middle = u64::from(book[first + 1]);
+    let high = u64::from(book[first + 2]);
     low + 256 * middle + 65_536 * high
 }
 
@@ -48,24 +44,23 @@ fn put(book: &mut [u8], slot: u64, root: u64)
 pub fn start_in(book: &[u8], slot: u64) -> u64
     ensures { Starts book.now slot result }
 {
-    if book.len() == BOOK_BYTES {
-        if slot <= LAST_SLOT {
-            return said(book, slot);
-        }
+    if book.len() == BOOK_BYTES && slot <= LAST_SLOT {
+        said(book, slot)
+    } else {
+        0
     }
-    0
 }
 
-// Whether there is such a slot: if so it says the root, and if not nothing is written.
-pub fn leave(book: &mut [u8], slot: u64, root: u64) -> bool
+// The slot says the root, or there is no such slot and nothing is written.
+pub fn leave(book: &mut [u8], slot: u64, root: u64) -> Result<(), Refusal>
     ensures { Leaves book.old slot root book.new result }
 {
     if book.len() != BOOK_BYTES {
-        return false;
+        return Err(Refusal::NoSuchSlot);
     }
     if LAST_SLOT < slot {
-        return false;
+        return Err(Refusal::NoSuchSlot);
     }
     put(book, slot, root);
-    true
+    Ok(())
 }

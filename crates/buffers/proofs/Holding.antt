@@ -1,7 +1,7 @@
 -- Texts put into a buffer, one behind another, are one text. Assumes nothing.
 use mathlib.Core.Path.{◌≡◌, sym, ap, ap₂, ◌∙◌}
 use mathlib.Core.List.{List, [], ◌++◌, append_assoc}
-use Prim.Native.Nat.{ℕ, ◌+◌, ◌-◌, ◌≤◌}
+use Prim.Native.Nat.{ℕ, ◌+◌, ◌≤◌}
 use native.Mathlib.Nat.{add-zero}
 use native.Mathlib.Omega.{arith}
 use lib.ListN.{length, take, drop, length-append, length-drop, take-append-drop}
@@ -15,12 +15,6 @@ puts_same is_same puts = rw is_same at puts
 pub put_with_room : {text before : List ℕ} {at : ℕ} {after : List ℕ} {next : ℕ} → Puts text before at after next → at + length text ≤ length before → Holds text before at after next
 put_with_room (has_room room holds) fits = holds
 put_with_room (no_room none same stays) fits = absurd (omega arith)
-
--- a text copied to the part of the buffer that is as long as it
-pub holding_copied : (text before part : List ℕ) (at : ℕ) → part ≡ text → take at before ++ (part ++ drop (at + length text - at) (drop at before)) ≡ holding text before at
-holding_copied text before part at is_part =
-    let long : at + (at + length text - at) ≡ at + length text = omega arith in
-    ap₂ (λ (l m : List ℕ). take at before ++ (l ++ m)) is_part (drop-drop (at + length text - at) at before ∙ ap (λ (n : ℕ). drop n before) long)
 
 -- nothing changes where nothing is put
 pub holds_nothing : (before : List ℕ) (at : ℕ) → Holds [] before at before at

@@ -1,6 +1,8 @@
 // Texts put into a lent buffer, one behind another: bytes as they are, and numbers in decimal. A text that
 // has room from a place on is written there, and where it has none nothing is written; what lies before it and
 // behind it stays as it was.
+// The place stands beside the buffer, as a parameter: a struct of both would keep the buffer borrowed from one
+// text to the next, and a contract would name the buffer and the place in it all the same.
 #![tactic(auto)]
 
 ghost use Rattle.sheets.specs.Grammar.{digits};

@@ -1,3 +1,2 @@
--- What the proofs of the functions use, and what is proved of the calls beside their contracts.
-pub mod Finding
+-- What is proved of the calls beside their contracts.
 pub mod Theorems

@@ -5,6 +5,9 @@ use mathlib.Core.List.{List, ◌++◌}
 use Prim.Native.Nat.{ℕ}
 use native.Mathlib.Decide.{ℕ_discrete}
 use lib.ListN.{length}
+use Rattle.std.specs.Prelude.{Result}
+use Rattle.refusals.specs.declared.Refusal.{Refusal}
+use Rattle.refusals.specs.Numbers.{outcome}
 use Rattle.refusals.specs.declared.Refusal.TheVariants.{NoSuchSide}
 use Rattle.refusals.proofs.Theorems.{EachDecided, decided_both}
 use Rattle.books.specs.Layouts.{Layout, slot_checks}
@@ -13,8 +16,7 @@ use Rattle.books.proofs.Slots.{slot_decided}
 use Rattle.replies.specs.Sides.{gas, dense}
 use Rattle.fluid.specs.Checks.{state_checks}
 use Rattle.fluid.proofs.Accepting.{state_decided}
-use Rattle.roots.specs.declared.Finding.{Finding}
-use Rattle.roots.specs.Promise.{finding}
+use Rattle.roots.specs.declared.Found.{Found}
 use Rattle.roots.proofs.Theorems.{finding_once}
 use Rattle.calls.specs.declared.Form.{Form}
 use Rattle.calls.specs.declared.Form.TheVariants.{Whole, Side}
@@ -22,14 +24,14 @@ use Rattle.calls.specs.Checks.{form_checks}
 use Rattle.calls.specs.Promise.{FindsAs, book_with, FindsWithBook}
 
 module _ (form : Form) (number millikelvin pascals : ℕ) where
-  pub finding_determined : (r s : Finding) → FindsAs form number millikelvin pascals (finding r) → FindsAs form number millikelvin pascals (finding s) → r ≡ s
+  pub finding_determined : (r s : Result Found Refusal) → FindsAs form number millikelvin pascals (outcome r) → FindsAs form number millikelvin pascals (outcome s) → r ≡ s
   finding_determined = finding_once number millikelvin pascals (state_checks number millikelvin pascals ++ form_checks form)
 
-  pub finding_with_book_determined : (slot : ℕ) (book : List ℕ) (r s : Finding) (after after' : List ℕ) → FindsWithBook form number millikelvin pascals slot book (finding r) after → FindsWithBook form number millikelvin pascals slot book (finding s) after' → (r ≡ s) × (after ≡ after')
+  pub finding_with_book_determined : (slot : ℕ) (book : List ℕ) (r s : Result Found Refusal) (after after' : List ℕ) → FindsWithBook form number millikelvin pascals slot book (outcome r) after → FindsWithBook form number millikelvin pascals slot book (outcome s) after' → (r ≡ s) × (after ≡ after')
   finding_with_book_determined slot book r s after after' p q =
       let checks = state_checks number millikelvin pascals ++ form_checks form ++ slot_checks in_bytes slot (length book) in
       let same : r ≡ s = finding_once number millikelvin pascals checks r s p.finds q.finds in
-      (same, p.leaves ∙ ap (λ (f : Finding). book_with book slot (finding f)) same ∙ sym q.leaves)
+      (same, p.leaves ∙ ap (λ (f : Result Found Refusal). book_with book slot (outcome f)) same ∙ sym q.leaves)
 
 form_decided : (form : Form) → EachDecided (form_checks form)
 form_decided Whole = tt

@@ -5,7 +5,8 @@ use Rattle.refusals.specs.Checks.{Outcome, with_value, with_number, Gives}
 use Rattle.books.specs.Layouts.{slot_checks}
 use Rattle.books.specs.Bytes.{in_bytes}
 use Rattle.fluid.specs.Checks.{state_checks}
-use Rattle.roots.specs.Promise.{Found, HasRoots}
+use Rattle.roots.specs.declared.Found.{Found}
+use Rattle.roots.specs.Promise.{HasRoots}
 use Rattle.calls.specs.declared.Form.{Form}
 use Rattle.calls.specs.Checks.{form_checks}
 

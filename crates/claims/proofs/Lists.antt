@@ -3,16 +3,17 @@
 use mathlib.Core.Path.{◌≡◌, refl, sym, ◌∙◌}
 use mathlib.Core.Logic.{◌⊎◌, inl, inr}
 use mathlib.Core.List.{List}
-use Prim.Native.Nat.{ℕ, zero, suc, ◌<◌}
+use Prim.Native.Nat.{ℕ, zero, suc, ◌+◌, ◌<◌}
+use native.Mathlib.Numerals.{add-one}
 use native.Mathlib.Omega.{arith}
 use native.Mathlib.Decide.{ℕ_discrete, dec_lt}
 use lib.ListN.{length}
+use Rattle.std.specs.Prelude.{Result, Ok, Err}
+use Rattle.refusals.specs.declared.Refusal.{Refusal}
 use Rattle.refusals.specs.Checks.{refuses, answers}
 use Rattle.refusals.proofs.Theorems.{first_once}
-use Rattle.claims.specs.declared.reply.ClaimsReply.{ClaimsReply}
-use Rattle.claims.specs.declared.reply.ClaimsReply.TheVariants.{AllStand, Refused, LengthsDiffer}
+use Rattle.claims.specs.declared.reply.ClaimsRefusal.{ClaimsRefusal}
 use Rattle.claims.specs.declared.reply.ClaimsFigures.{ClaimsFigures}
-use Rattle.claims.specs.declared.judging.Verdict.{Verdict}
 use Rattle.claims.specs.Claims.{Stands, claim_checks}
 use Rattle.claims.specs.Lists.{FiveLists, count, UnequalLengths, OneLength, claim_at, StandBefore}
 use Rattle.claims.specs.Replies.{refused_with, figures_of, FirstRefused, Checked, all_stand, one_refused, Replies}
@@ -23,10 +24,10 @@ module _ {lists : FiveLists} where
   pub none_before : StandBefore lists 0
   none_before = record { stands = λ earlier below. absurd (omega arith) }
 
-  pub one_more : {claim : ℕ} → StandBefore lists claim → Stands (claim_at lists claim) → StandBefore lists (suc claim)
+  pub one_more : {claim : ℕ} → StandBefore lists claim → Stands (claim_at lists claim) → StandBefore lists (claim + 1)
   one_more {claim} before is_standing = record { stands = λ earlier below. by_place earlier below (ℕ_discrete earlier claim) }
     where
-      by_place : (earlier : ℕ) → earlier < suc claim → Dec (earlier ≡ claim) → Stands (claim_at lists earlier)
+      by_place : (earlier : ℕ) → earlier < claim + 1 → Dec (earlier ≡ claim) → Stands (claim_at lists earlier)
       by_place earlier below (yes same) = rw same is_standing
       by_place earlier below (no f) = before.stands earlier (omega arith)
 
@@ -52,17 +53,17 @@ module _ {lists : FiveLists} where
   checked_once figures other (one_refused claim refusal first is_refused) (one_refused claim' refusal' first' is_refused') = is_refused ∙ refused_once first first' ∙ sym is_refused'
 
 -- whatever the numbers are, the first so many claims are told something
-pub checked : (lists : FiveLists) (claims : ℕ) → (reply : ClaimsReply) × Checked lists claims (figures_of reply)
-checked lists zero = (AllStand, all_stand none_before refl)
+pub checked : (lists : FiveLists) (claims : ℕ) → (reply : Result (Unit {0}) ClaimsRefusal) × Checked lists claims (figures_of reply)
+checked lists zero = (Ok tt, all_stand none_before refl)
 checked lists (suc claims) =
     let so_far = checked lists claims in
     let last = every_claim_has_a_verdict (claim_at lists claims) in
     with_last so_far.0 so_far.1 last.0 last.1
   where
-    with_last : (reply : ClaimsReply) → Checked lists claims (figures_of reply) → (verdict : Verdict) → Judges (claim_at lists claims) verdict → (next : ClaimsReply) × Checked lists (suc claims) (figures_of next)
-    with_last reply (all_stand stand is_answered) Verdict.Stands stands = (AllStand, all_stand (one_more stand stands) refl)
-    with_last reply (all_stand stand is_answered) (Verdict.Refused refusal) is_first =
-        (Refused claims refusal, one_refused claims _ (record { within = omega arith; before = stand; is_first = is_first }) refl)
+    with_last : (reply : Result (Unit {0}) ClaimsRefusal) → Checked lists claims (figures_of reply) → (verdict : Result (Unit {0}) Refusal) → Judges (claim_at lists claims) verdict → (next : Result (Unit {0}) ClaimsRefusal) × Checked lists (suc claims) (figures_of next)
+    with_last reply (all_stand stand is_answered) (Ok done) stands = (Ok tt, all_stand (rw (add-one claims) at (one_more stand stands)) refl)
+    with_last reply (all_stand stand is_answered) (Err refusal) is_first =
+        (Err (ClaimsRefusal.Claim claims refusal), one_refused claims _ (record { within = omega arith; before = stand; is_first = is_first }) refl)
     with_last reply (one_refused claim refusal first is_refused) verdict judges =
         (reply, one_refused claim refusal (record { within = omega (arith, first.within); before = first.before; is_first = first.is_first }) is_refused)
 
@@ -89,7 +90,7 @@ one_length_or_not lists = by_tests (same lists.millikelvin) (same lists.pascals)
 
 -- ---- what is told of all claims
 module _ {lists : FiveLists} where
-  pub tells_unequal : UnequalLengths lists → Replies lists (figures_of LengthsDiffer)
+  pub tells_unequal : UnequalLengths lists → Replies lists (figures_of (Err ClaimsRefusal.LengthsDiffer))
   tells_unequal unequal = refuses 8 (inl (unequal, refl)) refl
 
   pub tells_checked : {figures : ClaimsFigures} → OneLength lists → Checked lists (count lists) figures → Replies lists figures

@@ -5,12 +5,15 @@ use mathlib.Core.Logic.{◌↔◌}
 use Prim.Native.Nat.{ℕ, zero, suc}
 use Rattle.refusals.proofs.Theorems.{none_is_answered, zero_is_answered}
 use Rattle.cubic.specs.Cubic.{Crossing, ONE, SPLIT, IsKind}
-use Rattle.replies.specs.declared.Reply.{Reply}
+use Rattle.std.specs.Prelude.{Result}
+use Rattle.refusals.specs.declared.Refusal.{Refusal}
+use Rattle.replies.specs.declared.Answer.{Answer}
 use Rattle.replies.specs.declared.Figures.{Figures}
 use Rattle.replies.specs.declared.sides.SideFigures.{SideFigures}
 use Rattle.replies.specs.Figures.{number_of_kind, figures_of}
 use Rattle.replies.specs.Sides.{gas, dense, for_side, side_figures_of}
-use Rattle.roots.specs.Promise.{Found, HasRoots}
+use Rattle.roots.specs.declared.Found.{Found}
+use Rattle.roots.specs.Promise.{HasRoots}
 use Rattle.state.specs.Replies.{Answered, Replies, RepliesForSide}
 use Rattle.state.proofs.Theorems.{one_has_equal_sides, every_side_has_a_reply}
 use Rattle.claims.specs.Claims.{Claim, claim_of, SideRoot, side_checks, Stands}
@@ -52,7 +55,7 @@ module _ (fluid millikelvin pascals root : ℕ) where
   abbrev for : (side : ℕ) → Claim
   for side = claim_of fluid millikelvin pascals side root
 
-  pub stands_for_both_sides_of_one : (reply : Reply) → Replies fluid millikelvin pascals (figures_of reply) → (figures_of reply).kind ≡ number_of_kind ONE → Stands (for gas) ↔ Stands (for dense)
+  pub stands_for_both_sides_of_one : (reply : Result Answer Refusal) → Replies fluid millikelvin pascals (figures_of reply) → (figures_of reply).kind ≡ number_of_kind ONE → Stands (for gas) ↔ Stands (for dense)
   stands_for_both_sides_of_one reply replies is_one =
       let of_gas = every_side_has_a_reply fluid millikelvin pascals gas in
       let of_dense = every_side_has_a_reply fluid millikelvin pascals dense in

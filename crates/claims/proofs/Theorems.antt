@@ -6,13 +6,13 @@ use mathlib.Core.Logic.{◌⊎◌, inl, inr, ◌↔◌}
 use mathlib.Core.List.{[]}
 use Prim.Native.Nat.{ℕ, ◌≤◌, ◌<◌}
 use native.Mathlib.Omega.{arith}
+use Rattle.std.specs.Prelude.{Result, Ok, Err}
 use Rattle.refusals.specs.declared.Refusal.{Refusal}
 use Rattle.refusals.specs.Numbers.{number_of_refusal}
 use Rattle.refusals.specs.Checks.{FirstOf, refuses, answers}
 use Rattle.refusals.proofs.Lists.{has_number, number_on_list}
 use Rattle.refusals.proofs.Theorems.{find, refusal_of, number_determines_refusal, no_refusal_has, never_zero, tells_once, none_is_answered}
-use Rattle.claims.specs.declared.reply.ClaimsReply.{ClaimsReply}
-use Rattle.claims.specs.declared.reply.ClaimsReply.TheVariants.{AllStand, Refused, LengthsDiffer}
+use Rattle.claims.specs.declared.reply.ClaimsRefusal.{ClaimsRefusal}
 use Rattle.claims.specs.declared.reply.ClaimsFigures.{ClaimsFigures}
 use Rattle.claims.specs.Claims.{Claim, Stands, claim_checks}
 use Rattle.claims.specs.Lists.{FiveLists, lists_of, count, UnequalLengths, OneLength, claim_at, StandBefore}
@@ -30,33 +30,34 @@ never_eight : (refusal : Refusal) → number_of_refusal refusal ≡ 8 → ⊥
 unfolding refusal_of find
 never_eight = no_refusal_has 8 (λ same. omega arith)
 
-pub figures_determine_reply : (r s : ClaimsReply) → figures_of r ≡ figures_of s → r ≡ s
-figures_determine_reply AllStand AllStand same = refl
-figures_determine_reply AllStand (Refused claim refusal) same = absurd (never_zero refusal (sym (ap number_in same)))
-figures_determine_reply AllStand LengthsDiffer same = absurd (let number : ◌≡◌ {A = ℕ} 0 8 = ap number_in same in omega arith)
-figures_determine_reply (Refused claim refusal) AllStand same = absurd (never_zero refusal (ap number_in same))
-figures_determine_reply (Refused claim refusal) (Refused claim' refusal') same = ap₂ Refused (ap claim_in same) (number_determines_refusal refusal refusal' (ap number_in same))
-figures_determine_reply (Refused claim refusal) LengthsDiffer same = absurd (never_eight refusal (ap number_in same))
-figures_determine_reply LengthsDiffer AllStand same = absurd (let number : ◌≡◌ {A = ℕ} 8 0 = ap number_in same in omega arith)
-figures_determine_reply LengthsDiffer (Refused claim refusal) same = absurd (never_eight refusal (sym (ap number_in same)))
-figures_determine_reply LengthsDiffer LengthsDiffer same = refl
+pub figures_determine_reply : (r s : Result (Unit {0}) ClaimsRefusal) → figures_of r ≡ figures_of s → r ≡ s
+figures_determine_reply (Ok done) (Ok done') same = refl
+figures_determine_reply (Ok done) (Err (ClaimsRefusal.Claim claim refusal)) same = absurd (never_zero refusal (sym (ap number_in same)))
+figures_determine_reply (Ok done) (Err ClaimsRefusal.LengthsDiffer) same = absurd (let number : ◌≡◌ {A = ℕ} 0 8 = ap number_in same in omega arith)
+figures_determine_reply (Err (ClaimsRefusal.Claim claim refusal)) (Ok done) same = absurd (never_zero refusal (ap number_in same))
+figures_determine_reply (Err (ClaimsRefusal.Claim claim refusal)) (Err (ClaimsRefusal.Claim claim' refusal')) same =
+    ap₂ (λ claim refusal. Err (ClaimsRefusal.Claim claim refusal)) (ap claim_in same) (number_determines_refusal refusal refusal' (ap number_in same))
+figures_determine_reply (Err (ClaimsRefusal.Claim claim refusal)) (Err ClaimsRefusal.LengthsDiffer) same = absurd (never_eight refusal (ap number_in same))
+figures_determine_reply (Err ClaimsRefusal.LengthsDiffer) (Ok done) same = absurd (let number : ◌≡◌ {A = ℕ} 8 0 = ap number_in same in omega arith)
+figures_determine_reply (Err ClaimsRefusal.LengthsDiffer) (Err (ClaimsRefusal.Claim claim refusal)) same = absurd (never_eight refusal (sym (ap number_in same)))
+figures_determine_reply (Err ClaimsRefusal.LengthsDiffer) (Err ClaimsRefusal.LengthsDiffer) same = refl
 
-pub figures_determined : (reply : ClaimsReply) {figures other : ClaimsFigures} → figures ≡ figures_of reply → other ≡ figures_of reply → figures ≡ other
+pub figures_determined : (reply : Result (Unit {0}) ClaimsRefusal) {figures other : ClaimsFigures} → figures ≡ figures_of reply → other ≡ figures_of reply → figures ≡ other
 figures_determined reply p q = p ∙ sym q
 
 module _ (lists : FiveLists) where
   pub told_once : (figures other : ClaimsFigures) → Replies lists figures → Replies lists other → figures ≡ other
   told_once = tells_once (length_checks lists) (λ refusal figures other p q. p ∙ sym q) checked_once
 
-  pub claims_determined : (r s : ClaimsReply) → Replies lists (figures_of r) → Replies lists (figures_of s) → r ≡ s
+  pub claims_determined : (r s : Result (Unit {0}) ClaimsRefusal) → Replies lists (figures_of r) → Replies lists (figures_of s) → r ≡ s
   claims_determined r s p q = figures_determine_reply r s (told_once (figures_of r) (figures_of s) p q)
 
-  pub every_list_has_a_reply : (reply : ClaimsReply) × Replies lists (figures_of reply)
+  pub every_list_has_a_reply : (reply : Result (Unit {0}) ClaimsRefusal) × Replies lists (figures_of reply)
   every_list_has_a_reply = by_lengths (one_length_or_not lists)
     where
-      by_lengths : OneLength lists ⊎ UnequalLengths lists → (reply : ClaimsReply) × Replies lists (figures_of reply)
+      by_lengths : OneLength lists ⊎ UnequalLengths lists → (reply : Result (Unit {0}) ClaimsRefusal) × Replies lists (figures_of reply)
       by_lengths (inl one) = let told = checked lists (count lists) in (told.0, tells_checked one told.1)
-      by_lengths (inr unequal) = (LengthsDiffer, tells_unequal unequal)
+      by_lengths (inr unequal) = (Err ClaimsRefusal.LengthsDiffer, tells_unequal unequal)
 
 module _ {lists : FiveLists} {figures : ClaimsFigures} where
   -- every claim before the one reported stands,

@@ -3,6 +3,8 @@ use mathlib.Core.Path.{◌≡◌, refl, sym, subst, ◌∙◌}
 use mathlib.Core.Logic.{◌⊎◌, inl, inr}
 use Prim.Native.Nat.{ℕ}
 use native.Mathlib.Decide.{ℕ_discrete}
+use Rattle.std.specs.Prelude.{Result, Ok, Err}
+use Rattle.refusals.specs.declared.Refusal.{Refusal}
 use Rattle.refusals.specs.declared.Refusal.TheVariants.{RootDiffers}
 use Rattle.refusals.specs.Checks.{NoneOf, FirstOf}
 use Rattle.refusals.proofs.Lists.{none_both, none_front, none_or_first, first_front, first_behind}
@@ -13,7 +15,6 @@ use Rattle.roots.proofs.Theorems.{roots_once, roots_exist}
 use Rattle.calls.specs.declared.Form.TheVariants.{Side}
 use Rattle.calls.specs.Checks.{form_checks}
 use Rattle.calls.proofs.Theorems.{call_decided}
-use Rattle.claims.specs.declared.judging.Verdict.{Verdict}
 use Rattle.claims.specs.Claims as claims
 use Rattle.claims.specs.Claims.{Claim, SideRoot, side_checks, Stands, root_checks, claim_checks}
 use Rattle.claims.specs.Inside.{Judges}
@@ -38,17 +39,17 @@ module _ {claim : Claim} where
   pub never_both : {refusal : ℕ} → Stands claim → FirstOf (claim_checks claim) refusal → ⊥
   never_both {refusal} stands first = none_or_first (claim_checks claim) refusal (standing_is_not_refused stands) first
 
-pub every_claim_has_a_verdict : (claim : Claim) → (verdict : Verdict) × Judges claim verdict
+pub every_claim_has_a_verdict : (claim : Claim) → (verdict : Result (Unit {0}) Refusal) × Judges claim verdict
 every_claim_has_a_verdict claim = by_checks (first_or_none (side_checks claim) (call_decided (Side claim.side) claim.fluid claim.millikelvin claim.pascals))
   where
-    by_checks : First (side_checks claim) ⊎ NoneOf (side_checks claim) → (verdict : Verdict) × Judges claim verdict
-    by_checks (inl first) = (Verdict.Refused first.0, refused_before_root first.1)
+    by_checks : First (side_checks claim) ⊎ NoneOf (side_checks claim) → (verdict : Result (Unit {0}) Refusal) × Judges claim verdict
+    by_checks (inl first) = (Err first.0, refused_before_root first.1)
     by_checks (inr none) =
         let state = roots_exist claim.fluid claim.millikelvin claim.pascals (none_front (state_checks claim.fluid claim.millikelvin claim.pascals) (form_checks (Side claim.side)) none) in
         let own = for_side claim.side state.0.gas state.0.dense in
         let is_own : SideRoot claim own = record { found = state.0; roots = state.1; is_root = refl } in
         by_root own is_own (ℕ_discrete claim.root own)
       where
-        by_root : (own : ℕ) → SideRoot claim own → Dec (claim.root ≡ own) → (verdict : Verdict) × Judges claim verdict
-        by_root own is_own (yes same) = (Verdict.Stands, record { accepted = none; is_own = subst (SideRoot claim) (sym same) is_own })
-        by_root own is_own (no f) = (Verdict.Refused RootDiffers, refused_by_root none (record { own = own; is_own = is_own; differs = f }))
+        by_root : (own : ℕ) → SideRoot claim own → Dec (claim.root ≡ own) → (verdict : Result (Unit {0}) Refusal) × Judges claim verdict
+        by_root own is_own (yes same) = (Ok tt, record { accepted = none; is_own = subst (SideRoot claim) (sym same) is_own })
+        by_root own is_own (no f) = (Err RootDiffers, refused_by_root none (record { own = own; is_own = is_own; differs = f }))

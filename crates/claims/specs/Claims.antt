@@ -3,7 +3,8 @@ use Rattle.std.specs.Prelude.{◌≡◌, List, [], ◌∷◌, ◌++◌, ℕ}
 use Rattle.refusals.specs.Checks.{Check, ◌if◌, NoneOf}
 use Rattle.fluid.specs.Checks.{state_checks}
 use Rattle.replies.specs.Sides.{for_side}
-use Rattle.roots.specs.Promise.{Found, HasRoots}
+use Rattle.roots.specs.declared.Found.{Found}
+use Rattle.roots.specs.Promise.{HasRoots}
 use Rattle.calls.specs.declared.Form.TheVariants.{Side}
 use Rattle.calls.specs.Checks.{form_checks}
 

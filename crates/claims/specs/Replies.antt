@@ -1,10 +1,9 @@
 -- docs/RULES.md, "Claims": what comes back of a list of claims, and when: 8 before all, then the first claim that is refused, by its number in the
 -- list, or that all stand.
-use Rattle.std.specs.Prelude.{◌≡◌, List, [], ◌∷◌, ℕ, ◌<◌}
+use Rattle.std.specs.Prelude.{◌≡◌, List, [], ◌∷◌, ℕ, ◌<◌, Result, Ok, Err}
 use Rattle.refusals.specs.Checks.{Check, ◌if◌, FirstOf, Tells}
 use Rattle.refusals.specs.Numbers.{number_of_refusal}
-use Rattle.claims.specs.declared.reply.ClaimsReply.{ClaimsReply}
-use Rattle.claims.specs.declared.reply.ClaimsReply.TheVariants.{AllStand, Refused, LengthsDiffer}
+use Rattle.claims.specs.declared.reply.ClaimsRefusal.{ClaimsRefusal}
 use Rattle.claims.specs.declared.reply.ClaimsFigures.{ClaimsFigures}
 use Rattle.claims.specs.Claims.{claim_checks}
 use Rattle.claims.specs.Lists.{FiveLists, count, UnequalLengths, claim_at, StandBefore}
@@ -15,10 +14,10 @@ answered = record { number = 0; claim = 0 }
 abbrev pub refused_with : (refusal claim : ℕ) → ClaimsFigures
 refused_with refusal claim = record { number = refusal; claim = claim }
 
-abbrev pub figures_of : ClaimsReply → ClaimsFigures
-figures_of AllStand = answered
-figures_of (Refused claim refusal) = refused_with (number_of_refusal refusal) claim
-figures_of LengthsDiffer = refused_with 8 0
+abbrev pub figures_of : Result (Unit {0}) ClaimsRefusal → ClaimsFigures
+figures_of (Ok done) = answered
+figures_of (Err (ClaimsRefusal.Claim claim refusal)) = refused_with (number_of_refusal refusal) claim
+figures_of (Err ClaimsRefusal.LengthsDiffer) = refused_with 8 0
 
 -- this refusal is the first that applies to this claim, and every claim before it stands; of those behind it nothing is said
 pub record FirstRefused (lists : FiveLists) (claims claim refusal : ℕ) : Type 0 where

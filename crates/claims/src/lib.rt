@@ -4,75 +4,29 @@
 #![tactic(auto)]
 
 mod judging;
+mod list;
 mod reply;
 
-ghost use Rattle.claims.specs.Lists.{lists_of};
+ghost use Rattle.claims.specs.Lists.{lists_of, count};
 ghost use Rattle.claims.specs.Replies.{figures_of, Checked, Replies};
-ghost use Rattle.claims.specs.Inside.{IsOneLength, HasEach};
 
-use crate::judging::{Verdict, judge};
-pub use reply::{ClaimsFigures, ClaimsReply};
+use crate::list::Claims;
+pub use reply::{ClaimsFigures, ClaimsRefusal, ClaimsReply};
 
-// Whether every list has as many numbers as the first.
-fn one_length(
-    fluids: &[u64],
-    millikelvin: &[u64],
-    pascals: &[u64],
-    sides: &[u64],
-    roots: &[u64],
-) -> bool
-    ensures { IsOneLength (lists_of fluids.now millikelvin.now pascals.now sides.now roots.now) result }
+// What is told of the claims of lists of one length.
+#[tactic(auto, using(crate::proofs::Lists::one_more))]
+fn check_each(claims: &Claims) -> ClaimsReply
+    ensures { Checked claims.now (count claims.now) (figures_of result) }
 {
-    if millikelvin.len() != fluids.len() {
-        return false;
-    }
-    if pascals.len() != fluids.len() {
-        return false;
-    }
-    if sides.len() != fluids.len() {
-        return false;
-    }
-    if roots.len() != fluids.len() {
-        return false;
-    }
-    true
-}
-
-// What is told of the first so many claims.
-fn check_first(
-    claims: usize,
-    fluids: &[u64],
-    millikelvin: &[u64],
-    pascals: &[u64],
-    sides: &[u64],
-    roots: &[u64],
-) -> ClaimsReply
-    requires { HasEach (lists_of fluids.now millikelvin.now pascals.now sides.now roots.now) claims }
-    ensures { Checked (lists_of fluids.now millikelvin.now pascals.now sides.now roots.now) claims (figures_of result) }
-{
-    let mut claim = 0;
-    while claim < claims {
-        let verdict = judge(
-            fluids[claim],
-            millikelvin[claim],
-            pascals[claim],
-            sides[claim],
-            roots[claim],
-        );
-        match verdict {
-            Verdict::Stands => {
-                claim += 1;
-            }
-            Verdict::Refused(refusal) => {
-                let number = claim as u64;
-                return ClaimsReply::Refused {
-                    claim: number,
-                    refusal,
-                };
-            }
+    for claim in 0..claims.count() {
+        if let Err(refusal) = claims.judge(claim) {
+            return Err(ClaimsRefusal::Claim {
+                claim: claim as u64,
+                refusal,
+            });
         }
     }
-    ClaimsReply::AllStand
+    Ok(())
 }
 
 // The lengths are compared before any claim is looked at, so that 8 is told before all.
@@ -85,8 +39,6 @@ pub fn check(
 ) -> ClaimsReply
     ensures { Replies (lists_of fluids.now millikelvin.now pascals.now sides.now roots.now) (figures_of result) }
 {
-    if one_length(fluids, millikelvin, pascals, sides, roots) {
-        return check_first(fluids.len(), fluids, millikelvin, pascals, sides, roots);
-    }
-    ClaimsReply::LengthsDiffer
+    let claims = Claims::new(fluids, millikelvin, pascals, sides, roots)?;
+    check_each(&claims)
 }

@@ -5,33 +5,36 @@ ghost use Rattle.claims.specs.Replies.{figures_of};
 use refusals::Refusal;
 
 // A refused claim is the first that is, by its number in the list, from 0.
-#[derive(Clone, Copy)]
-pub enum ClaimsReply {
-    AllStand,
-    Refused { claim: u64, refusal: Refusal },
+#[derive(Clone, Copy, Debug, PartialEq, Eq)]
+pub enum ClaimsRefusal {
+    Claim { claim: u64, refusal: Refusal },
     LengthsDiffer,
 }
 
+// All claims stand, or this is why not.
+pub type ClaimsReply = Result<(), ClaimsRefusal>;
+
+// As C gets them: a number, 0 for an answer, and zeros where refused.
 #[derive(Clone, Copy)]
 pub struct ClaimsFigures {
     pub number: u64,
     pub claim: u64,
 }
 
-impl ClaimsReply {
-    pub fn figures(self) -> ClaimsFigures
-        ensures { result ≡ figures_of self }
-    {
-        match self {
-            ClaimsReply::AllStand => ClaimsFigures {
+impl From<ClaimsReply> for ClaimsFigures {
+    ghost from_gives = { λ reply figures. figures ≡ figures_of reply };
+
+    fn from(reply: ClaimsReply) -> ClaimsFigures {
+        match reply {
+            Ok(()) => ClaimsFigures {
                 number: 0,
                 claim: 0,
             },
-            ClaimsReply::Refused { claim, refusal } => ClaimsFigures {
+            Err(ClaimsRefusal::Claim { claim, refusal }) => ClaimsFigures {
                 number: refusal.number(),
                 claim,
             },
-            ClaimsReply::LengthsDiffer => ClaimsFigures {
+            Err(ClaimsRefusal::LengthsDiffer) => ClaimsFigures {
                 number: 8,
                 claim: 0,
             },

@@ -1,17 +1,12 @@
--- What the two tests that spare a search show: a crossing, and that a crossing is alone. Assumes nothing.
+-- What the test that spares the search from below shows: that a crossing is alone. Assumes nothing.
 use mathlib.Core.Path.{◌≡◌}
 use Prim.Native.Nat.{ℕ, ◌+◌, ◌*◌, ◌-◌, ◌≤◌, ◌<◌}
 use native.Mathlib.Nat.{mul-le-mul_left, mul-le-mul_right, le_of_mul-le-mul_left}
-use native.Mathlib.Numerals.{add-one}
 use native.Mathlib.Omega.{arith, by_contra}
 use Rattle.numbers.proofs.Squares.{twice_product}
 use Rattle.cubic.specs.Cubic.{N}
-use Rattle.cubic.specs.Sides.{plus, minus, NotPositiveTo, Crosses}
+use Rattle.cubic.specs.Sides.{plus, minus, NotPositiveTo}
 use Rattle.cubic.proofs.Shape.{above_grid}
-
--- a crossing, by what is worked out at a place and at the next
-pub crossing : {a b z : ℕ} → plus a z ≤ minus a b z → minus a b (z + 1) < plus a (z + 1) → Crosses a b z
-crossing not_positive then_positive = record { not_positive = not_positive; then_positive = rw add-one at then_positive }
 
 -- nothing above N + b is a crossing
 pub on_grid : (a b z : ℕ) → plus a z ≤ minus a b z → z ≤ N + b

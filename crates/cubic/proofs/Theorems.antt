@@ -1,14 +1,19 @@
 -- What is proved of the definitions of `specs/Cubic.antt`, for every a and every b: where g is positive, that there is one gas root and
 -- one dense root, and that no crossing goes unreported. The rules need it for b of at least 1; it holds for 0 too.
--- Last, that two roots have one kind. Assumes nothing.
-use mathlib.Core.Path.{◌≡◌, refl}
+-- Last, that two roots have one kind, and that what `Cubic::new` promises fixes its answer. Assumes nothing.
+use mathlib.Core.Path.{◌≡◌, refl, sym, ap, subst, ◌∙◌}
 use mathlib.Core.Logic.{◌⊎◌, inl, inr}
 use Prim.Native.Nat.{ℕ, ◌+◌, ◌≤◌, ◌<◌}
 use native.Mathlib.Nat.{le_antisymm, le_of_lt, lt_of_not-le, not-le_of_lt}
 use native.Mathlib.Omega.{arith}
 use native.Mathlib.Decide.{dec_le, ℕ_discrete}
+use native.Mathlib.Bridge.{le_prop}
+use Rattle.std.specs.Prelude.{Option, Some, None}
 use Rattle.cubic.specs.Cubic.{N, g, Positive, Crossing, GasRoot, DenseRoot, Kind, ONE, SPLIT, IsKind}
+use Rattle.cubic.specs.Promise.{Within}
 use Rattle.cubic.specs.Sides.{bend, PositiveFrom, NotPositiveTo}
+use Rattle.cubic.specs.Bounded.{Bounded}
+use Rattle.cubic.specs.declared.Cubic.{Cubic}
 use Rattle.cubic.proofs.Signed.{to_positive, of_positive}
 use Rattle.cubic.proofs.Shape.{to_b, above_grid}
 use Rattle.cubic.proofs.Roots.{before_positive, after_not_positive, gas_from_bend, dense_to_bend}
@@ -69,3 +74,23 @@ kind_determined gas dense ONE ONE p q = refl
 kind_determined gas dense ONE SPLIT p q = absurd (q p)
 kind_determined gas dense SPLIT ONE p q = absurd (p q)
 kind_determined gas dense SPLIT SPLIT p q = refl
+
+-- a cubic is told by its two coefficients: it is within the bounds in one way
+pub same_cubic : (cubic other : Cubic) → cubic.a ≡ other.a → cubic.b ≡ other.b → cubic ≡ other
+same_cubic cubic other same_a same_b =
+    subst (λ (a : ℕ). (w : Within a other.b) → cubic ≡ of a other.b w) same_a
+    (subst (λ (b : ℕ). (w : Within cubic.a b) → cubic ≡ of cubic.a b w) same_b (λ w. ap (of cubic.a cubic.b) (one_way cubic.within w)))
+    other.within
+  where
+    of : (a b : ℕ) → Within a b → Cubic
+    of a b w = record { a = a; b = b; within = w }
+
+    one_way : {a b : ℕ} → IsProp (Within a b)
+    one_way = hlevel le_prop
+
+-- two answers that keep what `Cubic::new` promises are equal
+pub new_determined : (a b : ℕ) (r s : Option Cubic) → Bounded a b r → Bounded a b s → r ≡ s
+new_determined a b (Some cubic) (Some other) p q = ap Some (same_cubic cubic other (p.is_a ∙ sym q.is_a) (p.is_b ∙ sym q.is_b))
+new_determined a b (Some cubic) None p q = absurd (q p.within)
+new_determined a b None (Some cubic) p q = absurd (p q.within)
+new_determined a b None None p q = refl

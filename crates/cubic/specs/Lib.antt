@@ -2,3 +2,4 @@
 pub mod Cubic
 pub mod Promise
 pub mod Sides
+pub mod Bounded

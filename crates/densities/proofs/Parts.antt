@@ -1,13 +1,12 @@
--- The parts of a density: what stands above the bar over the gas constant, which fits in 64 bits, and what is left below the bar, which is not 0.
+-- The parts of a density: what stands above the bar over the gas constant, which fits in 64 bits, and that one rounding is enough.
 -- Assumes nothing.
 use mathlib.Core.Path.{◌≡◌}
 use Prim.Native.Nat.{ℕ, ◌+◌, ◌*◌, ◌/◌, ◌%◌, ◌≤◌, ◌<◌}
-use native.Mathlib.Nat.{le_of_lt, mod-lt, mul-le-mul, mul-le-mul_right, mul-pos, mul_assoc, div-div-eq-div-mul}
+use native.Mathlib.Nat.{le_of_lt, mod-lt, mul-le-mul, mul-le-mul_right, mul_assoc, div-div-eq-div-mul}
 use native.Mathlib.Omega.{arith}
 use Rattle.fluid.specs.declared.choice.Fluid.{Fluid}
-use Rattle.fluid.specs.Figures.{hottest, highest}
+use Rattle.fluid.specs.Figures.{highest}
 use Rattle.densities.specs.Densities.{gas_constant, factor_of_molar_mass, density_factor}
-use Rattle.densities.specs.Promise.{largest_root, Weighable}
 use Rattle.fluid.proofs.Fluids.{heaviest}
 use Rattle.fluid.proofs.Theorems.{molar_mass_at_most}
 use Rattle.numbers.proofs.Quotients.{quotient_rises, in_parts}
@@ -33,14 +32,6 @@ parts fluid pascals few =
       sum = in_parts (density_factor fluid) pascals gas_constant some;
       fits = quotient_rises gas_constant (mul-le-mul (factor_fits fluid) few);
     }
-
--- what is left below the bar
-pub record Left (root millikelvin : ℕ) : Type 0 where
-  pub some : 0 < root * millikelvin
-  pub fits : root * millikelvin ≤ largest_root * hottest
-
-pub left : {millikelvin pascals root : ℕ} → Weighable millikelvin pascals root → Left root millikelvin
-left w = record { some = mul-pos w.some_root w.some_temperature; fits = mul-le-mul w.root_fits w.temperature_fits }
 
 -- one rounding down after the other is one
 pub one_rounding : (above constant root millikelvin : ℕ) → above / constant / (root * millikelvin) ≡ above / (constant * root * millikelvin)

@@ -5,19 +5,18 @@ use native.Mathlib.Nat.{mul-le-mul, mul-le-mul_left, mul_assoc}
 use native.Mathlib.Omega.{arith}
 use Rattle.numbers.proofs.Quotients.{quotient_grows}
 use Rattle.fluid.specs.declared.choice.Fluid.{Fluid}
-use Rattle.densities.specs.declared.Density.{Density}
-use Rattle.densities.specs.declared.Density.TheVariants.{GramsPerCubicMetre, OutOfBounds}
+use Rattle.std.specs.Prelude.{Option, Some, None}
 use Rattle.fluid.proofs.Fluids.{cold}
 use Rattle.densities.specs.Densities.{gas_constant, density}
 use Rattle.densities.specs.Promise.{Weighable, Weighs}
 use Rattle.densities.proofs.Parts.{factor_fits}
 
 module _ (fluid : Fluid) (millikelvin pascals : ℕ) where
-  pub density_determined : (root : ℕ) (r s : Density) → Weighs fluid millikelvin pascals root r → Weighs fluid millikelvin pascals root s → r ≡ s
-  density_determined root (GramsPerCubicMetre x) (GramsPerCubicMetre y) p q = ap GramsPerCubicMetre (p.is_density ∙ sym q.is_density)
-  density_determined root (GramsPerCubicMetre x) OutOfBounds p q = absurd (q p.weighable)
-  density_determined root OutOfBounds (GramsPerCubicMetre y) p q = absurd (p q.weighable)
-  density_determined root OutOfBounds OutOfBounds p q = refl
+  pub density_determined : (root : ℕ) (r s : Option ℕ) → Weighs fluid millikelvin pascals root r → Weighs fluid millikelvin pascals root s → r ≡ s
+  density_determined root (Some x) (Some y) p q = ap Some (p.is_density ∙ sym q.is_density)
+  density_determined root (Some x) None p q = absurd (q p.weighable)
+  density_determined root None (Some y) p q = absurd (p q.weighable)
+  density_determined root None None p q = refl
 
   -- in grams per cubic metre, for whoever adds densities up
   pub density_at_most : (root : ℕ) → cold ≤ millikelvin → Weighable millikelvin pascals root → density fluid millikelvin pascals root ≤ 2500000000000

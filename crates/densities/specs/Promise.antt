@@ -1,9 +1,7 @@
 -- docs/RULES.md, "Densities": what `density_of` promises.
-use Rattle.std.specs.Prelude.{◌≡◌, ℕ, ◌≤◌, ◌<◌}
+use Rattle.std.specs.Prelude.{◌≡◌, ℕ, ◌≤◌, ◌<◌, Option, Some, None}
 use Rattle.fluid.specs.declared.choice.Fluid.{Fluid}
 use Rattle.fluid.specs.Figures.{hottest, highest}
-use Rattle.densities.specs.declared.Density.{Density}
-use Rattle.densities.specs.declared.Density.TheVariants.{GramsPerCubicMetre, OutOfBounds}
 use Rattle.densities.specs.Densities.{density}
 
 -- the largest root there is: N + b, for the largest b that the cubic takes
@@ -22,6 +20,6 @@ pub record Weighed (fluid : Fluid) (millikelvin pascals root grams : ℕ) : Type
   pub weighable : Weighable millikelvin pascals root
   pub is_density : grams ≡ density fluid millikelvin pascals root
 
-abbrev pub Weighs : (fluid : Fluid) (millikelvin pascals root : ℕ) → Density → Type 0
-Weighs fluid millikelvin pascals root (GramsPerCubicMetre grams) = Weighed fluid millikelvin pascals root grams
-Weighs fluid millikelvin pascals root OutOfBounds = Weighable millikelvin pascals root → ⊥
+abbrev pub Weighs : (fluid : Fluid) (millikelvin pascals root : ℕ) → Option ℕ → Type 0
+Weighs fluid millikelvin pascals root (Some grams) = Weighed fluid millikelvin pascals root grams
+Weighs fluid millikelvin pascals root None = Weighable millikelvin pascals root → ⊥

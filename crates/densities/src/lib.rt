@@ -18,12 +18,6 @@ const GAS_CONSTANT: u64 = 8_314_462_618;
 // molar mass's hundred-thousandths are the grid's.
 const FACTOR_OF_MOLAR_MASS: u64 = 1_000_000_000_000;
 
-#[derive(Clone, Copy)]
-pub enum Density {
-    GramsPerCubicMetre(u64),
-    OutOfBounds,
-}
-
 // What stands above the bar but for the pressure.
 fn factor(fluid: Fluid) -> u64
     ensures { result ≡ density_factor fluid }
@@ -56,27 +50,28 @@ fn over_gas_constant(fluid: Fluid, pascals: u64) -> u64
     whole * pascals + rest * pascals / GAS_CONSTANT
 }
 
-// The density of a root at a state, or that 64 bits do not hold its parts, or that it would divide by 0.
-// To divide by one number and then by another rounds down as to divide by their product does. So the gas
-// constant goes first: what is left fits.
-pub fn density_of(fluid: Fluid, millikelvin: u64, pascals: u64, root: u64) -> Density
+// The density of a root at a state, in grams per cubic metre; none where 64 bits do not hold its parts, or it
+// would divide by 0. To divide by one number and then by another rounds down as to divide by their product
+// does. So the gas constant goes first: what is left fits.
+#[tactic(auto, using(crate::proofs::Parts::one_rounding), unfolding(crate::specs::Densities::density))]
+pub fn density_of(fluid: Fluid, millikelvin: u64, pascals: u64, root: u64) -> Option<u64>
     ensures { Weighs fluid millikelvin pascals root result }
 {
     if millikelvin == 0 {
-        return Density::OutOfBounds;
+        return None;
     }
     if HOTTEST_MILLIKELVIN < millikelvin {
-        return Density::OutOfBounds;
+        return None;
     }
     if HIGHEST_PASCALS < pascals {
-        return Density::OutOfBounds;
+        return None;
     }
     if root == 0 {
-        return Density::OutOfBounds;
+        return None;
     }
     if LARGEST_ROOT < root {
-        return Density::OutOfBounds;
+        return None;
     }
     let grams = over_gas_constant(fluid, pascals) / (root * millikelvin);
-    Density::GramsPerCubicMetre(grams)
+    Some(grams)
 }

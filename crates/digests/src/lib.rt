@@ -6,7 +6,7 @@ ghost use Rattle.std.specs.Prelude.{◌≡◌, drop};
 ghost use Rattle.sheets.specs.Digests.{opens, grows, first_of, second_of, takes, scans};
 ghost use Rattle.digests.specs.Inside.{Runs, GoesOn};
 
-use sheets::{Digest, Number, Scanned};
+use sheets::{Digest, Scanned};
 
 const LINE_END: u8 = 10;
 
@@ -20,50 +20,42 @@ const NINE: u8 = 57;
 const TEN_DIGITS: u64 = 1_000_000_000;
 
 // A number's first digit.
-fn opened(byte: u8) -> Number
+fn opened(byte: u8) -> Option<u64>
     ensures { result ≡ opens byte }
 {
     if byte < ZERO {
-        return Number::None;
+        return None;
     }
     if NINE < byte {
-        return Number::None;
+        return None;
     }
-    Number::Is((byte - ZERO) as u64)
+    Some((byte - ZERO) as u64)
 }
 
 // A number's next digit. Nothing follows a leading zero, and nothing a tenth digit.
-fn grown(number: u64, byte: u8) -> Number
+fn grown(number: u64, byte: u8) -> Option<u64>
     ensures { result ≡ grows number byte }
 {
     if number == 0 {
-        return Number::None;
+        return None;
     }
     if TEN_DIGITS <= number {
-        return Number::None;
+        return None;
     }
-    match opened(byte) {
-        Number::None => Number::None,
-        Number::Is(digit) => Number::Is(10 * number + digit),
-    }
+    let digit = opened(byte)?;
+    Some(10 * number + digit)
 }
 
-fn first(number: Number) -> Digest
+fn first(number: Option<u64>) -> Digest
     ensures { result ≡ first_of number }
 {
-    match number {
-        Number::None => Digest::Bad,
-        Number::Is(first) => Digest::First(first),
-    }
+    number.map_or(Digest::Bad, Digest::First)
 }
 
-fn second(first: u64, number: Number) -> Digest
+fn second(first: u64, number: Option<u64>) -> Digest
     ensures { result ≡ second_of first number }
 {
-    match number {
-        Number::None => Digest::Bad,
-        Number::Is(second) => Digest::Second { first, second },
-    }
+    number.map_or(Digest::Bad, |second| Digest::Second { first, second })
 }
 
 // One byte more, which is no line's end.
@@ -87,66 +79,67 @@ fn taken(digest: Digest, byte: u8) -> Digest
     }
 }
 
-// A number with the digits that follow it, and the place behind them.
+// A number with the digits that follow it, and how many those are.
 #[derive(Clone, Copy)]
 struct Run {
     number: u64,
-    end: usize,
+    digits: usize,
 }
 
-// Takes digits from a place on, as many as the number may have. Here most bytes of a sheet are taken, with nothing
-// asked but whether the number goes on.
-fn take_digits(bytes: &[u8], from: usize, number: u64) -> Run
-    ensures { Runs bytes.now from number result }
+// Takes digits from the start of the bytes, as many as the number may have. Here most bytes of a sheet are taken, with
+// nothing asked but whether the number goes on.
+fn take_digits(rest: &[u8], number: u64) -> Run
+    ensures { Runs rest.now number result }
 {
     let mut number = number;
-    let mut end = from;
-    while end < bytes.len() {
-        match grown(number, bytes[end]) {
-            Number::None => {
-                return Run { number, end };
-            }
-            Number::Is(more) => {
+    for (digits, byte) in rest.iter().enumerate() {
+        match grown(number, *byte) {
+            Some(more) => {
                 number = more;
-                end += 1;
+            }
+            None => {
+                return Run { number, digits };
             }
         }
     }
-    Run { number, end }
+    Run {
+        number,
+        digits: rest.len(),
+    }
 }
 
-// A digest, and the place up to which bytes were taken.
+// A digest, and how many bytes were taken.
 #[derive(Clone, Copy)]
 struct Onward {
     digest: Digest,
-    end: usize,
+    taken: usize,
 }
 
 // Behind a byte that was taken: where it left a number, the digits that follow are taken at once.
-fn go_on(bytes: &[u8], from: usize, digest: Digest) -> Onward
-    ensures { GoesOn bytes.now from digest result }
+fn go_on(rest: &[u8], digest: Digest) -> Onward
+    ensures { GoesOn rest.now digest result }
 {
     match digest {
-        Digest::Empty => Onward { digest, end: from },
+        Digest::Empty => Onward { digest, taken: 0 },
         Digest::First(number) => {
-            let run = take_digits(bytes, from, number);
+            let run = take_digits(rest, number);
             Onward {
                 digest: Digest::First(run.number),
-                end: run.end,
+                taken: run.digits,
             }
         }
-        Digest::AfterSpace(_) => Onward { digest, end: from },
+        Digest::AfterSpace(_) => Onward { digest, taken: 0 },
         Digest::Second { first, second } => {
-            let run = take_digits(bytes, from, second);
+            let run = take_digits(rest, second);
             Onward {
                 digest: Digest::Second {
                     first,
                     second: run.number,
                 },
-                end: run.end,
+                taken: run.digits,
             }
         }
-        Digest::Bad => Onward { digest, end: from },
+        Digest::Bad => Onward { digest, taken: 0 },
     }
 }
 
@@ -170,16 +163,17 @@ pub fn scan(bytes: &[u8], place: usize, before: Digest) -> Scanned
 {
     let mut digest = renewed(before);
     let mut end = place;
+    // The digits behind a byte are taken with it, so no `for` goes from byte to byte.
     while end < bytes.len() {
         let byte = bytes[end];
+        let next = end + 1;
         if byte == LINE_END {
-            let next = end + 1;
             return Scanned { digest, end, next };
         }
         let longer = taken(digest, byte);
-        let on = go_on(bytes, end + 1, longer);
+        let on = go_on(&bytes[next..], longer);
         digest = on.digest;
-        end = on.end;
+        end = next + on.taken;
     }
     Scanned {
         digest,

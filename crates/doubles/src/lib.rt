@@ -21,7 +21,7 @@ pub fn whole_part(x: f64) -> u64
 {
     let shifted = x + NO_FRACTION;
     if shifted < TOO_LARGE {
-        return f64::to_bits(shifted) % PAST_32_BITS;
+        return shifted.to_bits() % PAST_32_BITS;
     }
     0
 }

@@ -1,20 +1,22 @@
 -- What is proved of the definitions of `specs/`, beside what each call promises: which numbers are fluids', the bounds of a and b over every
 -- accepted state and of the molar masses, and that each promise fixes its answer. Assumes nothing.
-use mathlib.Core.Path.{◌≡◌, refl, sym, ap, ap₂, ◌∙◌}
+use mathlib.Core.Path.{◌≡◌, refl, sym, ap₂, ◌∙◌}
 use mathlib.Core.Logic.{⊎_elim}
 use Prim.Native.Nat.{ℕ, ◌*◌, ◌/◌, ◌≤◌, ◌<◌}
 use native.Mathlib.Omega.{arith}
 use Rattle.fluid.specs.declared.choice.Fluid.{Fluid}
-use Rattle.fluid.specs.declared.choice.Numbered.{Numbered}
+use Rattle.fluid.specs.declared.coefficients.Reached.{Reached}
 use Rattle.fluid.specs.declared.coefficients.Reduced.{Reduced}
-use Rattle.fluid.specs.declared.coefficients.Reduction.{Reduction}
 use Rattle.fluid.specs.Figures.{number_of, molar_mass, critical_millikelvin, Accepted}
 use Rattle.squares.proofs.Theorems.{square_root_determined, square_root_exists}
 use Rattle.fluid.specs.Reduced.{Reduces}
 use Rattle.fluid.specs.Checks.{fluid_checks, state_checks}
-use Rattle.fluid.specs.Promise.{numbered, Numbers, Reached, reduction, Reaches, ReducesTo}
-use Rattle.refusals.specs.Checks.{NoneOf, Outcome, with_value, with_number}
-use Rattle.refusals.proofs.Theorems.{gives_once, refusal_of, refusal_of_number}
+use Rattle.fluid.specs.Promise.{Numbers, Reaches, ReducesTo}
+use Rattle.std.specs.Prelude.{Result}
+use Rattle.refusals.specs.declared.Refusal.{Refusal}
+use Rattle.refusals.specs.Checks.{NoneOf}
+use Rattle.refusals.specs.Numbers.{outcome}
+use Rattle.refusals.proofs.Theorems.{result_once}
 use Rattle.fluid.proofs.Fluids.{heaviest, cold, fits, fluid_of, number_of_fluid, number_determines_fluid, no_fluid}
 use Rattle.fluid.proofs.Accepting.{accepts, fluid_or_none}
 use Rattle.fluid.proofs.Ranges.{Bounds, spanned, bounds}
@@ -68,31 +70,11 @@ module _ (fluid : Fluid) (millikelvin pascals : ℕ) where
       let fields : made r.t r.p r.s r.a r.b ≡ made s.t s.p s.s s.a s.b = cc in
       fields
 
--- two answers that keep what `of_number` promises are equal
-numbered_of : Outcome Fluid → Numbered
-numbered_of (with_value fluid) = Numbered.Fluid fluid
-numbered_of (with_number refusal) = Numbered.Refused (refusal_of refusal)
-
-numbered_back : (r : Numbered) → numbered_of (numbered r) ≡ r
-unfolding numbered_of
-numbered_back (Numbered.Fluid fluid) = refl
-numbered_back (Numbered.Refused refusal) = ap Numbered.Refused (refusal_of_number refusal)
-
-pub numbered_determined : (number : ℕ) (r s : Numbered) → Numbers number (numbered r) → Numbers number (numbered s) → r ≡ s
-numbered_determined number r s p q =
-    let same = gives_once (fluid_checks number) (λ f g p q. number_determines_fluid f g (sym p ∙ q)) (numbered r) (numbered s) p q in
-    sym (numbered_back r) ∙ ap numbered_of same ∙ numbered_back s
+-- two answers that keep what the number of a fluid promises are equal
+pub numbered_determined : (number : ℕ) (r s : Result Fluid Refusal) → Numbers number (outcome r) → Numbers number (outcome s) → r ≡ s
+numbered_determined number = result_once (fluid_checks number) (λ f g p q. number_determines_fluid f g (sym p ∙ q))
 
 -- and what `reduce` promises
-reduction_of : Outcome Reached → Reduction
-reduction_of (with_value reached) = Reduction.To reached.fluid reached.reduced
-reduction_of (with_number refusal) = Reduction.Refused (refusal_of refusal)
-
-reduction_back : (r : Reduction) → reduction_of (reduction r) ≡ r
-unfolding reduction_of
-reduction_back (Reduction.To fluid reduced) = refl
-reduction_back (Reduction.Refused refusal) = ap Reduction.Refused (refusal_of_number refusal)
-
 module _ (number millikelvin pascals : ℕ) where
   pub reached_once : (r s : Reached) → Reaches number millikelvin pascals r → Reaches number millikelvin pascals s → r ≡ s
   reached_once r s p q =
@@ -100,10 +82,8 @@ module _ (number millikelvin pascals : ℕ) where
       let same_reduced : r.reduced ≡ s.reduced = reduced_determined s.fluid millikelvin pascals r.reduced s.reduced (rw same_fluid at p.reduces) q.reduces in
       ap₂ (λ (fluid : Fluid) (reduced : Reduced). record { fluid = fluid; reduced = reduced }) same_fluid same_reduced
 
-  pub reduction_determined : (r s : Reduction) → ReducesTo number millikelvin pascals (reduction r) → ReducesTo number millikelvin pascals (reduction s) → r ≡ s
-  reduction_determined r s p q =
-      let same = gives_once (state_checks number millikelvin pascals) reached_once (reduction r) (reduction s) p q in
-      sym (reduction_back r) ∙ ap reduction_of same ∙ reduction_back s
+  pub reduction_determined : (r s : Result Reached Refusal) → ReducesTo number millikelvin pascals (outcome r) → ReducesTo number millikelvin pascals (outcome s) → r ≡ s
+  reduction_determined = result_once (state_checks number millikelvin pascals) reached_once
 
 -- every state comes to one t, p, s, a and b, in range or not
 pub reduced_exists : (fluid : Fluid) (millikelvin pascals : ℕ) → (reduced : Reduced) × Reduces fluid millikelvin pascals reduced

@@ -1,9 +1,10 @@
 // The choice of a fluid. One whose critical constants are the same at every temperature is a type with
-// constants, and a further case in each choice of this file.
+// constants, which is the form that document 01 asks for, and a further case in each choice of this file.
 ghost use Rattle.std.specs.Prelude.{◌≡◌, ◌*◌, ◌/◌, ◌≤◌, ◌<◌};
 ghost use Rattle.fluid.specs.Figures.{molar_mass, coldest, hottest, highest, Accepted};
 ghost use Rattle.fluid.specs.Inside.{ratios_of};
-ghost use Rattle.fluid.specs.Promise.{numbered, Numbers};
+ghost use Rattle.fluid.specs.Promise.{Numbers};
+ghost use Rattle.refusals.specs.Numbers.{outcome};
 
 use crate::hydrogen::Hydrogen;
 use crate::nitrogen::Nitrogen;
@@ -18,10 +19,20 @@ pub enum Fluid {
     Nitrogen,
 }
 
-#[derive(Clone, Copy)]
-pub enum Numbered {
-    Fluid(Fluid),
-    Refused(Refusal),
+// The fluid that docs/RULES.md, "Fluids", numbers so.
+impl TryFrom<u64> for Fluid {
+    type Error = Refusal;
+
+    ghost try_from_gives = { λ number r. Numbers number (outcome r) };
+
+    fn try_from(number: u64) -> Result<Self, Refusal> {
+        match number {
+            0 => Ok(Fluid::Hydrogen),
+            1 => Ok(Fluid::Oxygen),
+            2 => Ok(Fluid::Nitrogen),
+            _ => Err(Refusal::NoSuchFluid),
+        }
+    }
 }
 
 // How many of the units of t and of p a critical constant is.
@@ -36,22 +47,6 @@ pub(crate) struct Ratios {
     pub p: u64,
 }
 
-// The fluid that docs/RULES.md, "Fluids", numbers so.
-pub fn of_number(number: u64) -> Numbered
-    ensures { Numbers number (numbered result) }
-{
-    if number == 0 {
-        return Numbered::Fluid(Fluid::Hydrogen);
-    }
-    if number == 1 {
-        return Numbered::Fluid(Fluid::Oxygen);
-    }
-    if number == 2 {
-        return Numbered::Fluid(Fluid::Nitrogen);
-    }
-    Numbered::Refused(Refusal::NoSuchFluid)
-}
-
 pub(crate) fn coldest_millikelvin(fluid: Fluid) -> u64
     ensures { result ≡ coldest fluid }
 {
@@ -62,18 +57,11 @@ pub(crate) fn coldest_millikelvin(fluid: Fluid) -> u64
     }
 }
 
-fn temperature_ratio(millikelvin: u64, critical_millikelvin: u64) -> u64
-    requires { (0 < critical_millikelvin) × (millikelvin ≤ hottest) }
-    ensures { result ≡ 10000 * millikelvin / critical_millikelvin }
+fn ratio(parts: u64, value: u64, critical: u64) -> u64
+    requires { (0 < critical) × (parts * value ≤ 1000000 * highest) }
+    ensures { result ≡ parts * value / critical }
 {
-    PARTS_OF_T * millikelvin / critical_millikelvin
-}
-
-fn pressure_ratio(pascals: u64, critical_pascals: u64) -> u64
-    requires { (0 < critical_pascals) × (pascals ≤ highest) }
-    ensures { result ≡ 1000000 * pascals / critical_pascals }
-{
-    PARTS_OF_P * pascals / critical_pascals
+    parts * value / critical
 }
 
 // One choice for both, and the division within it: by a constant the compiler multiplies, where a critical
@@ -85,19 +73,23 @@ pub(crate) fn ratios_of(fluid: Fluid, millikelvin: u64, pascals: u64) -> Ratios
 {
     match fluid {
         Fluid::Hydrogen => Ratios {
-            t: temperature_ratio(millikelvin, Hydrogen::critical_millikelvin(millikelvin)),
+            t: ratio(
+                PARTS_OF_T,
+                millikelvin,
+                Hydrogen::critical_millikelvin(millikelvin),
+            ),
             p: quotient(
                 PARTS_OF_P * pascals,
                 Hydrogen::critical_pascals(millikelvin) as u32,
             ),
         },
         Fluid::Oxygen => Ratios {
-            t: temperature_ratio(millikelvin, Oxygen::CRITICAL_MILLIKELVIN),
-            p: pressure_ratio(pascals, Oxygen::CRITICAL_PASCALS),
+            t: ratio(PARTS_OF_T, millikelvin, Oxygen::CRITICAL_MILLIKELVIN),
+            p: ratio(PARTS_OF_P, pascals, Oxygen::CRITICAL_PASCALS),
         },
         Fluid::Nitrogen => Ratios {
-            t: temperature_ratio(millikelvin, Nitrogen::CRITICAL_MILLIKELVIN),
-            p: pressure_ratio(pascals, Nitrogen::CRITICAL_PASCALS),
+            t: ratio(PARTS_OF_T, millikelvin, Nitrogen::CRITICAL_MILLIKELVIN),
+            p: ratio(PARTS_OF_P, pascals, Nitrogen::CRITICAL_PASCALS),
         },
     }
 }

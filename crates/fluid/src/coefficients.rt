@@ -1,8 +1,9 @@
 // From a state to the coefficients of the cubic (docs/RULES.md, "From a state to the cubic").
 ghost use Rattle.fluid.specs.Figures.{number_of};
-ghost use Rattle.fluid.specs.Promise.{reduction, ReducesTo};
+ghost use Rattle.fluid.specs.Promise.{ReducesTo};
+ghost use Rattle.refusals.specs.Numbers.{outcome};
 
-use crate::choice::{Fluid, Numbered, coldest_millikelvin, of_number, ratios_of};
+use crate::choice::{Fluid, coldest_millikelvin, ratios_of};
 use refusals::Refusal;
 use squares::square_root;
 
@@ -29,28 +30,29 @@ pub struct Reduced {
     pub b: u64,
 }
 
+// The fluid of a state, and its t, p, s, a and b.
 #[derive(Clone, Copy)]
-pub enum Reduction {
-    To { fluid: Fluid, reduced: Reduced },
-    Refused(Refusal),
+pub struct Reached {
+    pub fluid: Fluid,
+    pub reduced: Reduced,
 }
 
 // The tests are in the order of the refusals' table.
-fn reduce_fluid(fluid: Fluid, millikelvin: u64, pascals: u64) -> Reduction
-    ensures { ReducesTo (number_of fluid) millikelvin pascals (reduction result) }
+fn reduce_fluid(fluid: Fluid, millikelvin: u64, pascals: u64) -> Result<Reached, Refusal>
+    ensures { ReducesTo (number_of fluid) millikelvin pascals (outcome result) }
 {
     let coldest = coldest_millikelvin(fluid);
     if millikelvin < coldest {
-        return Reduction::Refused(Refusal::TemperatureTooLow);
+        return Err(Refusal::TemperatureTooLow);
     }
     if HOTTEST_MILLIKELVIN < millikelvin {
-        return Reduction::Refused(Refusal::TemperatureTooHigh);
+        return Err(Refusal::TemperatureTooHigh);
     }
     if pascals < LOWEST_PASCALS {
-        return Reduction::Refused(Refusal::PressureTooLow);
+        return Err(Refusal::PressureTooLow);
     }
     if HIGHEST_PASCALS < pascals {
-        return Reduction::Refused(Refusal::PressureTooHigh);
+        return Err(Refusal::PressureTooHigh);
     }
     let ratios = ratios_of(fluid, millikelvin, pascals);
     let t = ratios.t;
@@ -58,18 +60,16 @@ fn reduce_fluid(fluid: Fluid, millikelvin: u64, pascals: u64) -> Reduction
     let s = square_root((10_000 * t) as u32);
     let a = FACTOR_OF_A * p / (t * t * s);
     let b = FACTOR_OF_B * p / (100 * t);
-    Reduction::To {
+    Ok(Reached {
         fluid,
         reduced: Reduced { t, p, s, a, b },
-    }
+    })
 }
 
-// The fluid of a state and its t, p, s, a and b, or the first refusal that applies to it.
-pub fn reduce(number: u64, millikelvin: u64, pascals: u64) -> Reduction
-    ensures { ReducesTo number millikelvin pascals (reduction result) }
+// What a state comes to, or the first refusal that applies to it. A state is three numbers here and in every call above, as C
+// passes them: any numbers at all are let in, so a struct of them would hold no fact.
+pub fn reduce(number: u64, millikelvin: u64, pascals: u64) -> Result<Reached, Refusal>
+    ensures { ReducesTo number millikelvin pascals (outcome result) }
 {
-    match of_number(number) {
-        Numbered::Refused(refusal) => Reduction::Refused(refusal),
-        Numbered::Fluid(fluid) => reduce_fluid(fluid, millikelvin, pascals),
-    }
+    reduce_fluid(Fluid::try_from(number)?, millikelvin, pascals)
 }

@@ -27,6 +27,7 @@ impl Hydrogen {
     pub const PASCALS_SHIFT: u64 = 4_420_000_000;
 
     // What comes to `hot` in hot gas, at a temperature.
+    #[tactic(auto, unfolding(crate::specs::Figures::lowered))]
     fn lowered(hot: u64, shift: u64, millikelvin: u64) -> u64
         requires { LoweredFits hot shift millikelvin }
         ensures { result ≡ Figures·lowered hot shift millikelvin }

@@ -8,5 +8,5 @@ pub mod hydrogen;
 pub mod nitrogen;
 pub mod oxygen;
 
-pub use choice::{Fluid, Numbered, molar_mass, of_number};
-pub use coefficients::{HIGHEST_PASCALS, HOTTEST_MILLIKELVIN, Reduced, Reduction, reduce};
+pub use choice::{Fluid, molar_mass};
+pub use coefficients::{HIGHEST_PASCALS, HOTTEST_MILLIKELVIN, Reached, Reduced, reduce};

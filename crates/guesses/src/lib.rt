@@ -9,7 +9,7 @@ ghost use Rattle.cubic.specs.Promise.{Within};
 ghost use Rattle.cubic.specs.Sides.{bend, GasSide};
 
 use crate::steps::two_steps;
-use cubic::{BEND, GRID, LARGEST_A, LARGEST_B};
+use cubic::{BEND, Cubic, GRID};
 
 // For a search from above: near the gas root and hardly ever below it. The root z lies below N + b by w,
 // with w z (z + b) equal to N a (z - b). So w is about N N a over (N + b) (N + 2 b), and in the next order
@@ -18,10 +18,7 @@ use cubic::{BEND, GRID, LARGEST_A, LARGEST_B};
 pub fn nearer(a: u64, b: u64) -> u64
     ensures { Within a b → GasSide b result }
 {
-    if LARGEST_A < a {
-        return BEND;
-    }
-    if LARGEST_B < b {
+    if Cubic::new(a, b).is_none() {
         return BEND;
     }
     let last = GRID + b;

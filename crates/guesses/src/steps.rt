@@ -22,7 +22,8 @@ fn closer(a: f64, b: f64, z: f64) -> f64 {
     z - g * (square - bent) / (d * (square - 2.0 * bent) + g * g)
 }
 
-// Where two such steps lead from a place beyond the root.
+// Where two such steps lead from a place beyond the root. It takes no `Cubic`, as `nearer_dense` sets a and b no
+// bounds.
 pub(crate) fn two_steps(a: u64, b: u64, beyond: u64) -> u64
     ensures { result < 2 ^ 32 }
 {

@@ -2,6 +2,7 @@
 ghost use Rattle.std.specs.Prelude.{◌≡◌};
 ghost use Rattle.heat.specs.Replies.{number_of};
 
+// Document 01 names these two cases, "either that double or refusal 5".
 #[derive(Clone, Copy)]
 pub enum HeatCapacity {
     KilojoulesPerKilogramKelvin(f64),

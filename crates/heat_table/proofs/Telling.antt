@@ -3,32 +3,30 @@ use mathlib.Core.Path.{◌≡◌, refl, subst}
 use Prim.Native.Nat.{ℕ, ◌+◌, ◌/◌, ◌%◌, ◌<◌}
 use native.Mathlib.Omega.{arith}
 use Rattle.refusals.specs.Checks.{refuses, answers}
-use Rattle.refusals.specs.declared.Refusal.TheVariants.{TemperatureTooLow, TemperatureTooHigh}
 use Rattle.fluid.specs.declared.choice.Fluid.TheVariants.{Hydrogen}
 use Rattle.fluid.specs.Figures.{coldest, hottest}
 use Rattle.fluid.proofs.Accepting.{cold_is_21, hot_is_22, temperature_passes}
-use Rattle.heat_table.specs.declared.replies.TableHeat.TheVariants.{JoulesPerKilogramKelvin, Refused}
 use Rattle.heat_table.specs.Entries.{Entry}
 use Rattle.heat_table.specs.Line.{OnLine, HeatAt}
-use Rattle.heat_table.specs.Replies.{figures_of, Replies}
+use Rattle.heat_table.specs.Replies.{answered_with, refused_with, Replies}
 use Rattle.heat_table.proofs.Heats.{at_kelvin}
 
 module _ {millikelvin : ℕ} where
-  pub tells_too_low : millikelvin < coldest Hydrogen → Replies millikelvin (figures_of (Refused TemperatureTooLow))
+  pub tells_too_low : millikelvin < coldest Hydrogen → Replies millikelvin (refused_with 21)
   tells_too_low cold = refuses 21 (cold_is_21 Hydrogen refl refl cold) refl
 
-  pub tells_too_high : hottest < millikelvin → Replies millikelvin (figures_of (Refused TemperatureTooHigh))
+  pub tells_too_high : hottest < millikelvin → Replies millikelvin (refused_with 22)
   tells_too_high hot = refuses 22 (hot_is_22 Hydrogen refl refl hot) refl
 
   -- a temperature on a line is in range, as the table is
-  pub tells_heat : {heat : ℕ} → HeatAt millikelvin heat → Replies millikelvin (figures_of (JoulesPerKilogramKelvin heat))
+  pub tells_heat : {heat : ℕ} → HeatAt millikelvin heat → Replies millikelvin (answered_with heat)
   tells_heat at =
       answers
       (temperature_passes Hydrogen refl (omega (arith, at.is_past, at.is_below.from_first)) (omega (arith, at.is_past, at.on_line.is_ahead, at.is_above.to_last)))
       (record { heat = _; is_heat = at; is_figures = refl })
 
   -- as the code finds it: on the line from the whole kelvin below, or at the last
-  pub tells_on_line : {below above heat : ℕ} → Entry (millikelvin / 1000) below → Entry (millikelvin / 1000 + 1) above → OnLine below above (millikelvin % 1000) heat → Replies millikelvin (figures_of (JoulesPerKilogramKelvin heat))
+  pub tells_on_line : {below above heat : ℕ} → Entry (millikelvin / 1000) below → Entry (millikelvin / 1000 + 1) above → OnLine below above (millikelvin % 1000) heat → Replies millikelvin (answered_with heat)
   tells_on_line is_below is_above on_line =
       tells_heat
       (record {
@@ -42,5 +40,5 @@ module _ {millikelvin : ℕ} where
         on_line = on_line;
       })
 
-  pub tells_last : {heat : ℕ} → millikelvin ≡ hottest → Entry (millikelvin / 1000) heat → Replies millikelvin (figures_of (JoulesPerKilogramKelvin heat))
+  pub tells_last : {heat : ℕ} → millikelvin ≡ hottest → Entry (millikelvin / 1000) heat → Replies millikelvin (answered_with heat)
   tells_last {heat} is_hottest is_entry = tells_heat (subst (λ (t : ℕ). HeatAt t heat) (omega arith) (at_kelvin is_entry))

@@ -6,14 +6,14 @@ use mathlib.Core.Logic.{◌↔◌}
 use Prim.Native.Nat.{ℕ, ◌+◌, ◌*◌, ◌-◌, ◌/◌, ◌%◌, ◌≤◌, ◌<◌}
 use native.Mathlib.Omega.{arith}
 use native.Mathlib.Decide.{dec_lt}
+use Rattle.std.specs.Prelude.{Result, Ok, Err}
 use Rattle.refusals.specs.Checks.{NoneOf}
+use Rattle.refusals.specs.declared.Refusal.{Refusal}
 use Rattle.refusals.specs.declared.Refusal.TheVariants.{TemperatureTooLow, TemperatureTooHigh}
 use Rattle.refusals.proofs.Theorems.{number_determines_refusal, never_zero, tells_once, none_is_answered, not_answered_is_refused, zero_is_answered}
 use Rattle.fluid.specs.declared.choice.Fluid.TheVariants.{Hydrogen}
 use Rattle.fluid.specs.Figures.{coldest, hottest}
 use Rattle.fluid.proofs.Accepting.{temperature_passes, temperature_accepted}
-use Rattle.heat_table.specs.declared.replies.TableHeat.{TableHeat}
-use Rattle.heat_table.specs.declared.replies.TableHeat.TheVariants.{JoulesPerKilogramKelvin, Refused}
 use Rattle.heat_table.specs.declared.replies.TableFigures.{TableFigures}
 use Rattle.heat_table.specs.Entries.{Entry}
 use Rattle.heat_table.specs.Line.{Between}
@@ -30,13 +30,13 @@ abbrev heat_in : TableFigures → ℕ
 heat_in figures = figures.heat
 
 -- ---- the contract fixes the reply, and every temperature has one
-pub figures_determine_reply : (reply other : TableHeat) → figures_of reply ≡ figures_of other → reply ≡ other
-figures_determine_reply (JoulesPerKilogramKelvin heat) (JoulesPerKilogramKelvin other) same = ap JoulesPerKilogramKelvin (ap heat_in same)
-figures_determine_reply (JoulesPerKilogramKelvin heat) (Refused refusal) same = absurd (never_zero refusal (sym (ap number_in same)))
-figures_determine_reply (Refused refusal) (JoulesPerKilogramKelvin heat) same = absurd (never_zero refusal (ap number_in same))
-figures_determine_reply (Refused refusal) (Refused other) same = ap Refused (number_determines_refusal refusal other (ap number_in same))
+pub figures_determine_reply : (reply other : Result ℕ Refusal) → figures_of reply ≡ figures_of other → reply ≡ other
+figures_determine_reply (Ok heat) (Ok other) same = ap Ok (ap heat_in same)
+figures_determine_reply (Ok heat) (Err refusal) same = absurd (never_zero refusal (sym (ap number_in same)))
+figures_determine_reply (Err refusal) (Ok heat) same = absurd (never_zero refusal (ap number_in same))
+figures_determine_reply (Err refusal) (Err other) same = ap Err (number_determines_refusal refusal other (ap number_in same))
 
-pub figures_determined : (reply : TableHeat) {figures other : TableFigures} → figures ≡ figures_of reply → other ≡ figures_of reply → figures ≡ other
+pub figures_determined : (reply : Result ℕ Refusal) {figures other : TableFigures} → figures ≡ figures_of reply → other ≡ figures_of reply → figures ≡ other
 figures_determined reply p q = p ∙ sym q
 
 module _ (millikelvin : ℕ) where
@@ -46,22 +46,22 @@ module _ (millikelvin : ℕ) where
   pub told_once : (figures other : TableFigures) → Replies millikelvin figures → Replies millikelvin other → figures ≡ other
   told_once = tells_once (hydrogen_checks millikelvin) (λ refusal figures other p q. p ∙ sym q) answered_once
 
-  pub heat_table_determined : (reply other : TableHeat) → Replies millikelvin (figures_of reply) → Replies millikelvin (figures_of other) → reply ≡ other
+  pub heat_table_determined : (reply other : Result ℕ Refusal) → Replies millikelvin (figures_of reply) → Replies millikelvin (figures_of other) → reply ≡ other
   heat_table_determined reply other p q = figures_determine_reply reply other (told_once (figures_of reply) (figures_of other) p q)
 
-  pub every_temperature_has_a_reply : (reply : TableHeat) × Replies millikelvin (figures_of reply)
+  pub every_temperature_has_a_reply : (reply : Result ℕ Refusal) × Replies millikelvin (figures_of reply)
   every_temperature_has_a_reply = by_ends (dec_lt millikelvin (coldest Hydrogen)) (dec_lt millikelvin hottest) (dec_lt hottest millikelvin)
     where
-      by_ends : Dec (millikelvin < coldest Hydrogen) → Dec (millikelvin < hottest) → Dec (hottest < millikelvin) → (reply : TableHeat) × Replies millikelvin (figures_of reply)
-      by_ends (yes cold) before past = (Refused TemperatureTooLow, tells_too_low cold)
-      by_ends (no f) before (yes past) = (Refused TemperatureTooHigh, tells_too_high past)
+      by_ends : Dec (millikelvin < coldest Hydrogen) → Dec (millikelvin < hottest) → Dec (hottest < millikelvin) → (reply : Result ℕ Refusal) × Replies millikelvin (figures_of reply)
+      by_ends (yes cold) before past = (Err TemperatureTooLow, tells_too_low cold)
+      by_ends (no f) before (yes past) = (Err TemperatureTooHigh, tells_too_high past)
       by_ends (no f) (yes before) (no g) =
           let below = every_kelvin_has_an_entry (millikelvin / 1000) (omega arith) (omega arith) in
           let above = every_kelvin_has_an_entry (millikelvin / 1000 + 1) (omega arith) (omega arith) in
-          (JoulesPerKilogramKelvin _, tells_on_line below.1 above.1 (line_exists below.0 above.0 (millikelvin % 1000) (omega arith)))
+          (Ok _, tells_on_line below.1 above.1 (line_exists below.0 above.0 (millikelvin % 1000) (omega arith)))
       by_ends (no f) (no h) (no g) =
           let entry = every_kelvin_has_an_entry (millikelvin / 1000) (omega arith) (omega arith) in
-          (JoulesPerKilogramKelvin entry.0, tells_last (omega arith) entry.1)
+          (Ok entry.0, tells_last (omega arith) entry.1)
 
 -- ---- the heat capacity
 -- at a whole kelvin of the table, its entry; at 1,000,000 mK, the last one

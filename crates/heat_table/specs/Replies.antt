@@ -1,12 +1,11 @@
 -- docs/RULES.md, "The heat table": what comes back of a temperature, and when. A refusal brings its number and zero.
-use Rattle.std.specs.Prelude.{◌≡◌, List, ℕ}
+use Rattle.std.specs.Prelude.{◌≡◌, List, ℕ, Result, Ok, Err}
 use Rattle.refusals.specs.Checks.{Check, Tells}
+use Rattle.refusals.specs.declared.Refusal.{Refusal}
 use Rattle.refusals.specs.Numbers.{number_of_refusal}
 use Rattle.fluid.specs.declared.choice.Fluid.TheVariants.{Hydrogen}
 use Rattle.fluid.specs.Figures.{number_of}
 use Rattle.fluid.specs.Checks.{temperature_checks}
-use Rattle.heat_table.specs.declared.replies.TableHeat.{TableHeat}
-use Rattle.heat_table.specs.declared.replies.TableHeat.TheVariants.{JoulesPerKilogramKelvin, Refused}
 use Rattle.heat_table.specs.declared.replies.TableFigures.{TableFigures}
 use Rattle.heat_table.specs.Line.{HeatAt}
 
@@ -20,9 +19,9 @@ answered_with heat = record { number = 0; heat = heat }
 abbrev pub refused_with : (refusal : ℕ) → TableFigures
 refused_with refusal = record { number = refusal; heat = 0 }
 
-abbrev pub figures_of : TableHeat → TableFigures
-figures_of (JoulesPerKilogramKelvin heat) = answered_with heat
-figures_of (Refused refusal) = refused_with (number_of_refusal refusal)
+abbrev pub figures_of : Result ℕ Refusal → TableFigures
+figures_of (Ok heat) = answered_with heat
+figures_of (Err refusal) = refused_with (number_of_refusal refusal)
 
 abbrev pub NumberAndZero : (refusal : ℕ) → TableFigures → Type 0
 NumberAndZero refusal figures = figures ≡ refused_with refusal

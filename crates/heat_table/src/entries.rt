@@ -1,6 +1,6 @@
 // The table of docs/RULES.md, "The heat table": hydrogen's ideal heat capacity in J/(kg K) at each whole
-// kelvin from 14 to 1000. No smaller type than 16 bits holds every entry. host/checks/heat_table.py prints
-// the constant.
+// kelvin from 14 to 1000, a constant table as document 01 names it. No smaller type than 16 bits holds every
+// entry. host/checks/heat_table.py prints the constant.
 ghost use Rattle.std.specs.Prelude.{◌≤◌};
 ghost use Rattle.heat_table.specs.Entries.{first, last, Entry};
 ghost use Rattle.heat_table.specs.Inside.{EveryEntry};
@@ -1005,6 +1005,7 @@ pub(crate) fn entries() -> [u16; 987]
     ENTRIES
 }
 
+#[tactic(auto, using(crate::proofs::Table::entry_at))]
 pub(crate) fn entry(table: &[u16; 987], kelvin: u64) -> u16
     requires { EveryEntry table.now × (first ≤ kelvin) × (kelvin ≤ last) }
     ensures { Entry kelvin result }

@@ -1,9 +1,9 @@
 -- docs/RULES.md, "A sheet in parts": a reader as eight numbers, and the reader that any eight numbers keep.
-use Rattle.std.specs.Prelude.{cond, List, [], ◌∷◌, ℕ, eqb, ltb, get_or}
+use Rattle.std.specs.Prelude.{cond, List, [], ◌∷◌, ℕ, eqb, ltb, get_or, Ok, Err}
 use Rattle.sheets.specs.declared.Digest.{Digest}
 use Rattle.sheets.specs.declared.Digest.TheVariants.{Empty, First, AfterSpace, Second, Bad}
-use Rattle.parts.specs.declared.Reader.{Reader}
-use Rattle.parts.specs.declared.Reader.TheVariants.{Open, Malformed, TooLong}
+use Rattle.parts.specs.Bytes.{Reader}
+use Rattle.sheets.specs.declared.Fault.TheVariants.{Malformed, TooLong}
 use Rattle.kept.specs.declared.Three.{Three}
 
 -- a digest: its stage, and its numbers where it has some
@@ -21,7 +21,7 @@ digest_of stage first second =
 -- stage, first and second number, sections begun, states left, the line's place, its bytes held, state lines; stage 5 is a sheet refused by 6,
 -- and a higher one a sheet refused by 7
 abbrev pub numbers_of : Reader → List ℕ
-numbers_of (Open standing) =
+numbers_of (Ok standing) =
     (three_of standing.digest).stage
     ∷ (three_of standing.digest).first
     ∷ (three_of standing.digest).second
@@ -31,16 +31,16 @@ numbers_of (Open standing) =
     ∷ standing.held
     ∷ standing.state_lines
     ∷ []
-numbers_of (Malformed place) = 5 ∷ 0 ∷ 0 ∷ 0 ∷ 0 ∷ place ∷ 0 ∷ 0 ∷ []
-numbers_of TooLong = 6 ∷ 0 ∷ 0 ∷ 0 ∷ 0 ∷ 0 ∷ 0 ∷ 0 ∷ []
+numbers_of (Err (Malformed place)) = 5 ∷ 0 ∷ 0 ∷ 0 ∷ 0 ∷ place ∷ 0 ∷ 0 ∷ []
+numbers_of (Err TooLong) = 6 ∷ 0 ∷ 0 ∷ 0 ∷ 0 ∷ 0 ∷ 0 ∷ 0 ∷ []
 
 abbrev pub reader_of : List ℕ → Reader
 reader_of numbers =
     cond (ltb 5 (get_or numbers 0 0))
-    TooLong
+    (Err TooLong)
     (cond (eqb (get_or numbers 0 0) 5)
-    (Malformed (get_or numbers 5 0))
-    (Open
+    (Err (Malformed (get_or numbers 5 0)))
+    (Ok
     (record {
       cursor = record { begun = get_or numbers 3 0; left = get_or numbers 4 0; place = get_or numbers 5 0 };
       digest = digest_of (get_or numbers 0 0) (get_or numbers 1 0) (get_or numbers 2 0);

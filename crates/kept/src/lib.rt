@@ -7,9 +7,10 @@ ghost use Rattle.std.specs.Prelude.{◌≡◌};
 ghost use Rattle.kept.specs.Numbers.{digest_of, three_of, reader_of, numbers_of};
 
 use parts::{Reader, Standing};
-use sheets::{Cursor, Digest};
+use sheets::{Cursor, Digest, Fault};
 
-// The stage of a reader that met no fault is that of its line's digest, which is 0 where nothing came of it.
+// Stages are numbers, and not an enum, since C keeps them. That of a reader that met no fault is that of its line's
+// digest, which is 0 where nothing came of it.
 const FIRST: u64 = 1;
 
 const AFTER_SPACE: u64 = 2;
@@ -31,54 +32,50 @@ struct Three {
     second: u64,
 }
 
-fn spelled(digest: Digest) -> Three
-    ensures { result ≡ three_of digest }
-{
-    match digest {
-        Digest::Empty => Three {
-            stage: 0,
-            first: 0,
-            second: 0,
-        },
-        Digest::First(first) => Three {
-            stage: FIRST,
-            first,
-            second: 0,
-        },
-        Digest::AfterSpace(first) => Three {
-            stage: AFTER_SPACE,
-            first,
-            second: 0,
-        },
-        Digest::Second { first, second } => Three {
-            stage: SECOND,
-            first,
-            second,
-        },
-        Digest::Bad => Three {
-            stage: BAD,
-            first: 0,
-            second: 0,
-        },
+impl From<Digest> for Three {
+    ghost from_gives = { λ digest three. three ≡ three_of digest };
+
+    fn from(digest: Digest) -> Three {
+        match digest {
+            Digest::Empty => Three {
+                stage: 0,
+                first: 0,
+                second: 0,
+            },
+            Digest::First(first) => Three {
+                stage: FIRST,
+                first,
+                second: 0,
+            },
+            Digest::AfterSpace(first) => Three {
+                stage: AFTER_SPACE,
+                first,
+                second: 0,
+            },
+            Digest::Second { first, second } => Three {
+                stage: SECOND,
+                first,
+                second,
+            },
+            Digest::Bad => Three {
+                stage: BAD,
+                first: 0,
+                second: 0,
+            },
+        }
     }
 }
 
 fn digest_at(stage: u64, first: u64, second: u64) -> Digest
     ensures { result ≡ digest_of stage first second }
 {
-    if stage == 0 {
-        return Digest::Empty;
+    match stage {
+        0 => Digest::Empty,
+        FIRST => Digest::First(first),
+        AFTER_SPACE => Digest::AfterSpace(first),
+        SECOND => Digest::Second { first, second },
+        _ => Digest::Bad,
     }
-    if stage == FIRST {
-        return Digest::First(first);
-    }
-    if stage == AFTER_SPACE {
-        return Digest::AfterSpace(first);
-    }
-    if stage == SECOND {
-        return Digest::Second { first, second };
-    }
-    Digest::Bad
 }
 
 // The numbers that a reader is kept in.
@@ -86,10 +83,10 @@ pub fn numbers(reader: Reader) -> [u64; 8]
     ensures { result ≡ numbers_of reader }
 {
     match reader {
-        Reader::Open(standing) => {
+        Ok(standing) => {
             let cursor = standing.cursor;
             let digest = standing.digest;
-            let three = spelled(digest);
+            let three = Three::from(digest);
             [
                 three.stage,
                 three.first,
@@ -101,8 +98,8 @@ pub fn numbers(reader: Reader) -> [u64; 8]
                 standing.state_lines,
             ]
         }
-        Reader::Malformed { place } => [MALFORMED, 0, 0, 0, 0, place as u64, 0, 0],
-        Reader::TooLong => [TOO_LONG, 0, 0, 0, 0, 0, 0, 0],
+        Err(Fault::Malformed { place }) => [MALFORMED, 0, 0, 0, 0, place as u64, 0, 0],
+        Err(Fault::TooLong) => [TOO_LONG, 0, 0, 0, 0, 0, 0, 0],
     }
 }
 
@@ -110,24 +107,18 @@ pub fn numbers(reader: Reader) -> [u64; 8]
 pub fn reader(numbers: &[u64; 8]) -> Reader
     ensures { result ≡ reader_of numbers.now }
 {
-    let stage = numbers[0];
-    let first = numbers[1];
-    let second = numbers[2];
-    let begun = numbers[3];
-    let left = numbers[4];
-    let place = numbers[5] as usize;
-    let held = numbers[6] as usize;
-    let state_lines = numbers[7];
+    let [stage, first, second, begun, left, place, held, state_lines] = *numbers;
+    let place = place as usize;
     if MALFORMED < stage {
-        return Reader::TooLong;
+        return Err(Fault::TooLong);
     }
     if stage == MALFORMED {
-        return Reader::Malformed { place };
+        return Err(Fault::Malformed { place });
     }
-    Reader::Open(Standing {
+    Ok(Standing {
         cursor: Cursor { begun, left, place },
         digest: digest_at(stage, first, second),
-        held,
+        held: held as usize,
         state_lines,
     })
 }

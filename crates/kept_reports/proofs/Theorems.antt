@@ -1,35 +1,30 @@
 -- What is proved of a report that is kept as numbers: nothing of it is lost, zeros are a sheet before its first byte, and each contract fixes its answer.
 -- Assumes nothing.
 use mathlib.Core.Path.{◌≡◌, refl, sym, ◌∙◌}
-use mathlib.Core.List.{List, [], ◌∷◌}
+use mathlib.Core.List.{List}
 use Prim.Native.Nat.{ℕ}
 use lib.ListN.{get_or, replicate}
-use Rattle.parts.specs.declared.Reader.{Reader}
-use Rattle.parts.specs.declared.Reader.TheVariants.{Open, Malformed, TooLong}
-use Rattle.kept.specs.Numbers.{numbers_of, reader_of}
+use Rattle.std.specs.Prelude.{Ok, Err}
+use Rattle.sheets.specs.declared.Fault.TheVariants.{Malformed, TooLong}
+use Rattle.parts.specs.Bytes.{Reader}
+use Rattle.kept.specs.Numbers.{reader_of}
 use Rattle.kept.proofs.Theorems as kept
 use Rattle.tallies.specs.declared.Report.{Report}
 use Rattle.reports.specs.declared.Reporting.{Reporting}
 use Rattle.reports.specs.Parts.{at_start}
 use Rattle.kept_reports.specs.Rows.{rows_of, reader_row, kept_rows, reporting_of}
 
--- the reader's numbers one by one
-pub one_by_one : (reader : Reader) (state_lines : ℕ) → get_or (numbers_of reader) 0 0 ∷ get_or (numbers_of reader) 1 0 ∷ get_or (numbers_of reader) 2 0 ∷ get_or (numbers_of reader) 3 0 ∷ get_or (numbers_of reader) 4 0 ∷ get_or (numbers_of reader) 5 0 ∷ get_or (numbers_of reader) 6 0 ∷ get_or (numbers_of reader) 7 0 ∷ state_lines ∷ 0 ∷ 0 ∷ [] ≡ reader_row reader state_lines
-one_by_one (Open standing) state_lines = refl
-one_by_one (Malformed place) state_lines = refl
-one_by_one TooLong state_lines = refl
-
 -- the reader that a row keeps
 reader_back : (reader : Reader) (state_lines : ℕ) → reader_of (reader_row reader state_lines) ≡ reader
-reader_back (Open standing) state_lines = kept.nothing_is_lost (Open standing)
-reader_back (Malformed place) state_lines = refl
-reader_back TooLong state_lines = refl
+reader_back (Ok standing) state_lines = kept.nothing_is_lost (Ok standing)
+reader_back (Err (Malformed place)) state_lines = refl
+reader_back (Err TooLong) state_lines = refl
 
 -- and the state lines
 lines_back : (reader : Reader) (state_lines : ℕ) → get_or (reader_row reader state_lines) 8 0 ≡ state_lines
-lines_back (Open standing) state_lines = refl
-lines_back (Malformed place) state_lines = refl
-lines_back TooLong state_lines = refl
+lines_back (Ok standing) state_lines = refl
+lines_back (Err (Malformed place)) state_lines = refl
+lines_back (Err TooLong) state_lines = refl
 
 -- What is kept comes back as it was.
 pub nothing_is_lost : (reporting : Reporting) → reporting_of (kept_rows reporting) ≡ reporting

@@ -1,7 +1,7 @@
 -- docs/RULES.md, "The report": a report as rows of eleven numbers, and what is kept of a sheet with one more before them; and the sheet that any
 -- rows keep.
 use Rattle.std.specs.Prelude.{List, [], ◌∷◌, ◌++◌, ℕ, get_or}
-use Rattle.parts.specs.declared.Reader.{Reader}
+use Rattle.parts.specs.Bytes.{Reader}
 use Rattle.kept.specs.Numbers.{numbers_of, reader_of}
 use Rattle.tallies.specs.declared.Report.{Report}
 use Rattle.tallies.specs.Rows.{row_of, report_at}

@@ -1,3 +1,2 @@
 -- What the proofs of the functions use, and what is proved beside the contracts.
-pub mod Laying
 pub mod Theorems

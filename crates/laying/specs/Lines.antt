@@ -1,8 +1,6 @@
 -- docs/RULES.md, "A sheet in parts": what is left with a caller of a state line that ended in a part of a sheet.
-use Rattle.std.specs.Prelude.{◌≡◌, List, ◌∷◌, ℕ, replicate}
+use Rattle.std.specs.Prelude.{◌≡◌, List, ◌∷◌, ℕ, replicate, Option, Some, None}
 use Rattle.sheets.specs.declared.State.{State}
-use Rattle.parts.specs.declared.Brought.{Brought}
-use Rattle.parts.specs.declared.Brought.TheVariants as Brought
 use Rattle.laying.specs.States.{StateAnswers}
 
 -- fluid, temperature, pressure, and then what `woolyard_state` answers
@@ -16,6 +14,6 @@ pub record LineAnswered (state : State) (answer : List ℕ) : Type 0 where
 abbrev pub nine_zeros : List ℕ
 nine_zeros = replicate 9 0
 
-abbrev pub AnswersBrought : Brought → (answer : List ℕ) → Type 0
-AnswersBrought (Brought.State state) answer = LineAnswered state answer
-AnswersBrought Brought.Nothing answer = answer ≡ nine_zeros
+abbrev pub AnswersBrought : Option State → (answer : List ℕ) → Type 0
+AnswersBrought (Some state) answer = LineAnswered state answer
+AnswersBrought None answer = answer ≡ nine_zeros

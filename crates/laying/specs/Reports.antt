@@ -1,7 +1,6 @@
 -- docs/RULES.md, "The report": what is left with a caller of a report on a sheet.
 use Rattle.std.specs.Prelude.{◌≡◌, List, ℕ}
-use Rattle.reports.specs.declared.told.Reported.{Reported}
-use Rattle.reports.specs.Sheets.{figures_of}
+use Rattle.reports.specs.Sheets.{Reported, figures_of}
 use Rattle.kept_reports.specs.Rows.{rows_of}
 
 -- the number of a reply; its report, row by row, and the place of a fault go to the caller

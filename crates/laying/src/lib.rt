@@ -7,15 +7,16 @@ ghost use Rattle.laying.specs.Sides.{SideLaid};
 ghost use Rattle.laying.specs.Lines.{AnswersBrought};
 ghost use Rattle.laying.specs.Reports.{ReportLaid};
 
-use parts::Brought;
-use reports::Reported;
-use state::{Reply, SideReply};
+use reports::{ReportFigures, Reported};
+use sheets::State;
+use state::{Figures, Reply, SideFigures, SideReply};
+use tallies::Row;
 
 // The number of a reply. Its kind, its roots and its densities go to the caller's array.
 pub fn lay_figures(reply: Reply, figures: &mut [u64; 5]) -> u64
     ensures { Laid reply result figures.new }
 {
-    let told = reply.figures();
+    let told = Figures::from(reply);
     *figures = [
         told.kind,
         told.gas_root,
@@ -30,50 +31,41 @@ pub fn lay_figures(reply: Reply, figures: &mut [u64; 5]) -> u64
 pub fn lay_side(reply: SideReply, figures: &mut [u64; 2]) -> u64
     ensures { SideLaid reply result figures.new }
 {
-    let shown = reply.figures();
+    let shown = SideFigures::from(reply);
     *figures = [shown.root, shown.density];
     shown.number
 }
 
 // The state line that ended, and the reply to its state. Where none did, zeros.
-pub fn lay_line(brought: Brought, answer: &mut [u64; 9])
+pub fn lay_line(brought: Option<State>, answer: &mut [u64; 9])
     ensures { AnswersBrought brought answer.new }
 {
-    match brought {
-        Brought::State(line) => {
+    *answer = match brought {
+        Some(line) => {
             let reply = state::ask(line.fluid, line.millikelvin, line.pascals);
-            let mut five = [0; 5];
-            let number = lay_figures(reply, &mut five);
-            let kind = five[0];
-            let gas_root = five[1];
-            let dense_root = five[2];
-            let gas_density = five[3];
-            let dense_density = five[4];
-            *answer = [
+            let figures = Figures::from(reply);
+            [
                 line.fluid,
                 line.millikelvin,
                 line.pascals,
-                number,
-                kind,
-                gas_root,
-                dense_root,
-                gas_density,
-                dense_density,
-            ];
+                figures.number,
+                figures.kind,
+                figures.gas_root,
+                figures.dense_root,
+                figures.gas_density,
+                figures.dense_density,
+            ]
         }
-        Brought::Nothing => {
-            *answer = [0; 9];
-        }
-    }
+        None => [0; 9],
+    };
 }
 
 // The number of a reply to a sheet. Its report goes to the caller row by row, and so does the place of a fault.
-pub fn lay_report(reply: Reported, report: &mut [[u64; 11]; 3], place: &mut u64) -> u64
+pub fn lay_report(reply: Reported, report: &mut [Row; 3], place: &mut u64) -> u64
     ensures { ReportLaid reply result report.new place.new }
 {
-    let said = reply.figures();
-    let rows = kept_reports::rows(said.report);
-    *report = rows;
+    let said = ReportFigures::from(reply);
+    *report = kept_reports::rows(said.report);
     *place = said.place as u64;
     said.number
 }

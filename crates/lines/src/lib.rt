@@ -1,12 +1,12 @@
 // One line of a sheet (docs/RULES.md, "Sheets"), read where a cursor stands.
 #![tactic(auto)]
 
-ghost use Rattle.std.specs.Prelude.{◌≡◌, ◌-◌};
+ghost use Rattle.std.specs.Prelude.{◌≡◌};
 ghost use Rattle.sheets.specs.Grammar.{all_sections};
 ghost use Rattle.sheets.specs.Lines.{counted, stated, ended, wants_line, unended, met};
 
 use digests::scan;
-use sheets::{Cursor, Digest, Line, Next, State};
+use sheets::{Cursor, Digest, Fault, Line, State, StateLine};
 
 // How many sections a sheet has: one a fluid, in the order of their numbers.
 pub const SECTIONS: u64 = 3;
@@ -21,13 +21,13 @@ fn count_line(cursor: Cursor, next: usize, count: u64) -> Line
     let left = cursor.left;
     let place = cursor.place;
     if left != 0 {
-        return Line::Told(Next::Malformed { place });
+        return Line::Told(Err(Fault::Malformed { place }));
     }
     if SECTIONS <= begun {
-        return Line::Told(Next::Malformed { place });
+        return Line::Told(Err(Fault::Malformed { place }));
     }
     if MOST_STATES < count {
-        return Line::Told(Next::Malformed { place });
+        return Line::Told(Err(Fault::Malformed { place }));
     }
     Line::Count(Cursor {
         begun: begun + 1,
@@ -36,18 +36,8 @@ fn count_line(cursor: Cursor, next: usize, count: u64) -> Line
     })
 }
 
-// A section's fluid is its number, from 0. Where no section was begun no state line is wanted, and the 0
-// tells nothing.
-fn fluid_of(begun: u64) -> u64
-    ensures { result ≡ begun - 1 }
-{
-    if begun == 0 {
-        return 0;
-    }
-    begun - 1
-}
-
-// A line of two numbers stands where the section begun last lacks a state.
+// A line of two numbers stands where the section begun last lacks a state. A section's fluid is its number, from 0. Where
+// no section was begun no state line is wanted, and the 0 tells nothing.
 fn state_line(cursor: Cursor, next: usize, millikelvin: u64, pascals: u64) -> Line
     ensures { result ≡ stated cursor next millikelvin pascals }
 {
@@ -55,11 +45,11 @@ fn state_line(cursor: Cursor, next: usize, millikelvin: u64, pascals: u64) -> Li
     let left = cursor.left;
     let place = cursor.place;
     if left == 0 {
-        return Line::Told(Next::Malformed { place });
+        return Line::Told(Err(Fault::Malformed { place }));
     }
-    Line::Told(Next::State {
+    Line::Told(Ok(Some(StateLine {
         state: State {
-            fluid: fluid_of(begun),
+            fluid: begun.saturating_sub(1),
             millikelvin,
             pascals,
         },
@@ -68,7 +58,7 @@ fn state_line(cursor: Cursor, next: usize, millikelvin: u64, pascals: u64) -> Li
             left: left - 1,
             place: next,
         },
-    })
+    })))
 }
 
 // A line that has its end, by its digest. The next line begins where `next` says.
@@ -79,9 +69,9 @@ pub fn ended_line(cursor: Cursor, next: usize, digest: Digest) -> Line
     match digest {
         Digest::First(count) => count_line(cursor, next, count),
         Digest::Second { first, second } => state_line(cursor, next, first, second),
-        Digest::Empty => Line::Told(Next::Malformed { place }),
-        Digest::AfterSpace(_) => Line::Told(Next::Malformed { place }),
-        Digest::Bad => Line::Told(Next::Malformed { place }),
+        Digest::Empty => Line::Told(Err(Fault::Malformed { place })),
+        Digest::AfterSpace(_) => Line::Told(Err(Fault::Malformed { place })),
+        Digest::Bad => Line::Told(Err(Fault::Malformed { place })),
     }
 }
 
@@ -107,12 +97,12 @@ fn unended_line(cursor: Cursor, end: usize) -> Line
 {
     let place = cursor.place;
     if place < end {
-        return Line::Told(Next::Malformed { place });
+        return Line::Told(Err(Fault::Malformed { place }));
     }
     if wants_line(cursor) {
-        return Line::Told(Next::Malformed { place });
+        return Line::Told(Err(Fault::Malformed { place }));
     }
-    Line::Told(Next::Over)
+    Line::Told(Ok(None))
 }
 
 // What begins where the cursor stands.

@@ -1,16 +1,15 @@
 -- How many digits a number has, one more at a time, and how long a section is, one state line more at a time. Assumes nothing.
-use mathlib.Core.Path.{◌≡◌, refl, ap}
-use mathlib.Core.List.{List}
-use Prim.Native.Nat.{ℕ, suc, ◌+◌, ◌-◌, ◌*◌, ◌^◌, ◌≤◌, ◌<◌}
-use native.Mathlib.Numerals.{add-one}
+use mathlib.Core.Path.{◌≡◌, ap}
+use mathlib.Core.List.{List, [], ◌∷◌}
+use Prim.Native.Nat.{ℕ, ◌+◌, ◌-◌, ◌*◌, ◌^◌, ◌≤◌, ◌<◌}
 use native.Mathlib.Omega.{arith}
-use lib.ListN.{length, get_or, length-append}
+use lib.ListN.{length, length-append}
 use Rattle.buffers.proofs.Digits.{fewest_is_length}
-use Rattle.sheets.specs.Grammar.{Writable, decimal, WritablePair, line, state_lines, section}
+use Rattle.sheets.specs.Grammar.{Writable, decimal, line, state_lines, section}
 use Rattle.sheets.proofs.Numerals.{decimal_is_numeral}
 use Rattle.measures.specs.Columns.{paired}
-use Rattle.measures.specs.Inside.{Width, MakesSection, SectionLength, state_line}
-use Rattle.measures.proofs.Sections.{left_pairs, count_first, none_left, line_first, next_writable, state_line_long, count_line_long}
+use Rattle.measures.specs.Inside.{Width, MakesSection, longest_section, SectionLength, state_line}
+use Rattle.measures.proofs.Sections.{count_first, no_lines, first_line, others_make_section, state_line_long, count_line_long}
 
 -- what `width` keeps: a power of ten, which the number is above but for the last step
 pub record Grown (number width above : ℕ) : Type 0 where
@@ -19,63 +18,40 @@ pub record Grown (number width above : ℕ) : Type 0 where
   pub few : width ≤ above
   pub needed : 1 < width → 10 ^ (width - 1) ≤ number
 
-pub one_digit : (number : ℕ) → Grown number 1 10
-one_digit number = record { is_power = refl; some = omega arith; few = omega arith; needed = λ more. absurd (omega arith) }
-
 module _ {number width above : ℕ} (grown : Grown number width above) where
-  pub one_more_digit : above ≤ number → Grown number (width + 1) (above * 10)
-  one_more_digit more =
-      let one_less : width + 1 - 1 ≡ width = omega arith in
-      record {
-        is_power = rw (add-one width) (omega (arith, grown.is_power));
-        some = omega arith;
-        few = omega (arith, grown.few, grown.some);
-        needed = λ two. rw one_less (omega (arith, grown.is_power));
-      }
-
   pub all_digits : Writable number → number < above → Width number width
   all_digits writable below =
       let is_width : width ≡ length (decimal number) = fewest_is_length width number writable (grown.some, omega (arith, grown.is_power), grown.needed) in
       record { is_width = is_width; few = omega (arith, (decimal_is_numeral number writable).at_most_ten) }
 
 -- what the loop keeps: the length so far, and what is left, make the section's
-pub record Measured (millikelvin pascals : List ℕ) (taken so_far : ℕ) : Type 0 where
-  pub lists : MakesSection millikelvin pascals
-  pub within : taken ≤ length millikelvin
-  pub is_length : so_far + length (state_lines (left_pairs millikelvin pascals taken)) ≡ length (section (paired millikelvin pascals))
-  pub short : so_far ≤ 11 + 22 * taken
+pub record Measured (millikelvin pascals left_millikelvin left_pascals : List ℕ) (so_far : ℕ) : Type 0 where
+  pub lists : MakesSection left_millikelvin left_pascals
+  pub is_length : so_far + length (state_lines (paired left_millikelvin left_pascals)) ≡ length (section (paired millikelvin pascals))
+  pub short : so_far + 22 * length left_millikelvin ≤ longest_section
 
 module _ {millikelvin pascals : List ℕ} where
-  pub count_measured : {width : ℕ} → MakesSection millikelvin pascals → Width (length millikelvin) width → Measured millikelvin pascals 0 (width + 1)
+  pub count_measured : {width : ℕ} → MakesSection millikelvin pascals → Width (length millikelvin) width → Measured millikelvin pascals millikelvin pascals (width + 1)
   count_measured lists is_width =
       record {
         lists = lists;
-        within = omega arith;
         is_length =
-            omega (arith, is_width.is_width, count_line_long (length millikelvin), ap length (count_first lists), length-append (line (decimal (length millikelvin))) (state_lines (left_pairs millikelvin pascals 0)));
-        short = omega (arith, is_width.few);
+            omega (arith, is_width.is_width, count_line_long (length millikelvin), ap length (count_first lists), length-append (line (decimal (length millikelvin))) (state_lines (paired millikelvin pascals)));
+        short = omega (arith, is_width.few, lists.few);
       }
 
-  module _ {taken so_far : ℕ} (measured : Measured millikelvin pascals taken so_far) where
-    module _ (below : taken < length millikelvin) where
-      pub writable_here : WritablePair (record { millikelvin = get_or millikelvin taken 0; pascals = get_or pascals taken 0 })
-      writable_here = next_writable measured.lists below
-
-      pub line_measured : {first second : ℕ} → Width (get_or millikelvin taken 0) first → Width (get_or pascals taken 0) second → Measured millikelvin pascals (taken + 1) (so_far + (first + second + 2))
-      line_measured is_first is_second =
-          let one_line = state_line_long (get_or millikelvin taken 0) (get_or pascals taken 0) in
-          let lines = ap length (line_first measured.lists below) in
-          let both = length-append (state_line (get_or millikelvin taken 0) (get_or pascals taken 0)) (state_lines (left_pairs millikelvin pascals (suc taken))) in
-          record {
-            lists = measured.lists;
-            within = omega arith;
-            is_length = rw (add-one taken) (omega (arith, measured.is_length, is_first.is_width, is_second.is_width, one_line, lines, both));
-            short = omega (arith, measured.short, is_first.few, is_second.few);
-          }
-
-    pub all_measured : length millikelvin ≤ taken → SectionLength millikelvin pascals so_far
-    all_measured over =
+  module _ {temperature pressure so_far : ℕ} {left_millikelvin left_pascals : List ℕ} (measured : Measured millikelvin pascals (temperature ∷ left_millikelvin) (pressure ∷ left_pascals) so_far) where
+    pub line_measured : {first second : ℕ} → Width temperature first → Width pressure second → Measured millikelvin pascals left_millikelvin left_pascals (so_far + (first + second + 2))
+    line_measured is_first is_second =
+        let one_line = state_line_long temperature pressure in
+        let lines = ap length (first_line temperature pressure left_millikelvin left_pascals) in
+        let both = length-append (state_line temperature pressure) (state_lines (paired left_millikelvin left_pascals)) in
         record {
-          is_length = omega (arith, measured.is_length, ap length (none_left measured.lists over));
-          short = omega (arith, measured.short, measured.within, measured.lists.few);
+          lists = others_make_section measured.lists;
+          is_length = omega (arith, measured.is_length, is_first.is_width, is_second.is_width, one_line, lines, both);
+          short = omega (arith, measured.short, is_first.few, is_second.few);
         }
+
+  pub all_measured : {left_pascals : List ℕ} {so_far : ℕ} → Measured millikelvin pascals [] left_pascals so_far → SectionLength millikelvin pascals so_far
+  all_measured {left_pascals} measured =
+      record { is_length = omega (arith, measured.is_length, ap length (no_lines left_pascals)); short = omega (arith, measured.short) }

@@ -1,5 +1,4 @@
 -- What the proofs of the functions use, and what is proved of lists that are to be written.
-pub mod Deciding
 pub mod Numbers
 pub mod Sections
 pub mod Lengths

@@ -1,38 +1,27 @@
--- A list of numbers, looked at one by one for one that has too many digits. Assumes nothing.
-use mathlib.Core.Logic.{◌⊎◌, inl, inr}
+-- A list of numbers, asked for one that has too many digits. Assumes nothing.
+use mathlib.Core.Bool.{Bool, true, false}
 use mathlib.Core.List.{List, [], ◌∷◌}
-use Prim.Native.Nat.{ℕ, zero, suc, ◌+◌, ◌≤◌, ◌<◌}
-use native.Mathlib.Numerals.{add-one}
+use mathlib.Core.Logic.{inl, inr}
+use Prim.Native.Nat.{ℕ, zero, suc, ◌<◌}
 use native.Mathlib.Omega.{arith}
-use lib.ListN.{length, get_or, drop, drop_of_length-le}
-use lib.Seq.{drop-cons}
+use lib.ListN.{length}
+use Rattle.std.specs.Bool.{MatchBool}
+use Rattle.std.specs.List.{AllWithin, HoldsAt}
 use Rattle.sheets.specs.Grammar.{eleven_digits}
 use Rattle.measures.specs.Checks.{Some, TooManyDigits}
+use Rattle.measures.specs.Inside.{Decides}
 
-some_behind : (k : ℕ) (numbers : List ℕ) → Some TooManyDigits (drop k numbers) → Some TooManyDigits numbers
-some_behind zero numbers some = some
-some_behind (suc k) [] some = absurd some
-some_behind (suc k) (number ∷ numbers) some = inr (some_behind k numbers some)
+some_at : (numbers : List ℕ) (k : ℕ) → k < length numbers → HoldsAt TooManyDigits numbers k → Some TooManyDigits numbers
+some_at [] k below many = absurd (omega arith)
+some_at (number ∷ numbers) zero below many = inl (many 0)
+some_at (number ∷ numbers) (suc k) below many = inr (some_at numbers k (omega arith) many)
 
--- what the loop keeps: one that has too many is among those that are left
-pub record Passed (numbers : List ℕ) (taken : ℕ) : Type 0 where
-  pub within : taken ≤ length numbers
-  pub among_left : Some TooManyDigits numbers → Some TooManyDigits (drop taken numbers)
+none_within : (numbers : List ℕ) → AllWithin (λ number. number < eleven_digits) numbers 0 (length numbers) → Some TooManyDigits numbers → ⊥
+none_within [] few some = some
+none_within (number ∷ numbers) few (inl many) = omega (arith, few 0 0 (omega arith) (omega arith))
+none_within (number ∷ numbers) few (inr some) = none_within numbers (λ k d at_least below. few (suc k) d (omega arith) (omega arith)) some
 
-pub none_passed : (numbers : List ℕ) → Passed numbers 0
-none_passed numbers = record { within = omega arith; among_left = λ some. some }
-
-module _ {numbers : List ℕ} {taken : ℕ} (passed : Passed numbers taken) where
-  module _ (below : taken < length numbers) where
-    pub one_passed : get_or numbers taken 0 < eleven_digits → Passed numbers (taken + 1)
-    one_passed few = record { within = omega arith; among_left = λ some. rw (add-one taken) (later (rw (drop-cons numbers taken 0 below) at (passed.among_left some))) }
-      where
-        later : TooManyDigits (get_or numbers taken 0) ⊎ Some TooManyDigits (drop (suc taken) numbers) → Some TooManyDigits (drop (suc taken) numbers)
-        later (inl many) = absurd (omega arith)
-        later (inr some) = some
-
-    pub one_found : eleven_digits ≤ get_or numbers taken 0 → Some TooManyDigits numbers
-    one_found many = some_behind taken numbers (rw (drop-cons numbers taken 0 below) (inl many))
-
-  pub all_passed : length numbers ≤ taken → Some TooManyDigits numbers → ⊥
-  all_passed over some = rw (drop_of_length-le numbers over) at (passed.among_left some)
+-- what is found is so
+pub some_decided : (numbers : List ℕ) (found : Bool) → MatchBool found ((k : ℕ) × (k < length numbers) × HoldsAt TooManyDigits numbers k) (AllWithin (λ number. number < eleven_digits) numbers 0 (length numbers)) → Decides (Some TooManyDigits numbers) found
+some_decided numbers true found = some_at numbers found.0 found.1 found.2
+some_decided numbers false few = none_within numbers few

@@ -1,11 +1,11 @@
 -- A section of two lists, state by state: which states are left, and what they are written to. Assumes nothing.
 use mathlib.Core.Path.{◌≡◌, refl, sym, ap}
 use mathlib.Core.List.{List, [], ◌∷◌, ◌++◌, append-nil}
-use Prim.Native.Nat.{ℕ, zero, suc, ◌+◌, ◌≤◌, ◌<◌}
+use Prim.Native.Nat.{ℕ, suc, ◌+◌, ◌≤◌, ◌<◌}
 use native.Mathlib.Omega.{arith}
 use lib.ListN.{length, get_or, drop, length-append, drop_of_length-le}
 use lib.Seq.{drop-cons}
-use Rattle.sheets.specs.Grammar.{line_end, space, decimal, Pair, WritablePair, pair_text, line, state_lines, section, sheet, EachWritable}
+use Rattle.sheets.specs.Grammar.{line_end, space, decimal, Pair, WritablePair, pair_text, line, state_lines, section, sheet}
 use Rattle.measures.specs.Columns.{paired}
 use Rattle.measures.specs.Inside.{MakesSection, state_line}
 
@@ -13,16 +13,6 @@ pub paired_long : (millikelvin pascals : List ℕ) → length pascals ≡ length
 paired_long [] pascals equal = refl
 paired_long (temperature ∷ millikelvin) [] equal = absurd (omega arith)
 paired_long (temperature ∷ millikelvin) (pressure ∷ pascals) equal = ap suc (paired_long millikelvin pascals (omega arith))
-
-none_writable : (millikelvin : List ℕ) → EachWritable (paired millikelvin [])
-none_writable [] = tt
-none_writable (temperature ∷ millikelvin) = tt
-
-each_behind : (k : ℕ) (millikelvin pascals : List ℕ) → EachWritable (paired millikelvin pascals) → EachWritable (paired (drop k millikelvin) (drop k pascals))
-each_behind zero millikelvin pascals each = each
-each_behind (suc k) [] pascals each = tt
-each_behind (suc k) (temperature ∷ millikelvin) [] each = none_writable (drop k millikelvin)
-each_behind (suc k) (temperature ∷ millikelvin) (pressure ∷ pascals) each = each_behind k millikelvin pascals each.1
 
 -- two numbers, the space between them and the line's end
 pub state_line_long : (temperature pressure : ℕ) → length (state_line temperature pressure) ≡ length (decimal temperature) + length (decimal pressure) + 2
@@ -61,8 +51,21 @@ module _ {millikelvin pascals : List ℕ} (lists : MakesSection millikelvin pasc
       unfolding state_lines
       line_first = ap state_lines one_left
 
-      pub next_writable : WritablePair (record { millikelvin = get_or millikelvin taken 0; pascals = get_or pascals taken 0 })
-      next_writable = (rw one_left at (each_behind taken millikelvin pascals lists.writable)).0
+-- the same of lists that are taken apart
+pub no_lines : (pascals : List ℕ) → state_lines (paired [] pascals) ≡ []
+unfolding state_lines
+no_lines pascals = refl
+
+pub first_line : (temperature pressure : ℕ) (millikelvin pascals : List ℕ) → state_lines (paired (temperature ∷ millikelvin) (pressure ∷ pascals)) ≡ state_line temperature pressure ++ state_lines (paired millikelvin pascals)
+unfolding state_lines
+first_line temperature pressure millikelvin pascals = refl
+
+module _ {temperature pressure : ℕ} {millikelvin pascals : List ℕ} (lists : MakesSection (temperature ∷ millikelvin) (pressure ∷ pascals)) where
+  pub next_writable : WritablePair (record { millikelvin = temperature; pascals = pressure })
+  next_writable = lists.writable.0
+
+  pub others_make_section : MakesSection millikelvin pascals
+  others_make_section = record { few = omega (arith, lists.few); equal = omega (arith, lists.equal); writable = lists.writable.1 }
 
 -- three sections are a sheet
 module _ (first second third : List Pair) where

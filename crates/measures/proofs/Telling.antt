@@ -6,12 +6,12 @@ use Prim.Native.Nat.{ℕ, ◌≤◌, ◌<◌}
 use native.Mathlib.Omega.{arith}
 use native.Mathlib.Decide.{ℕ_discrete}
 use lib.ListN.{length}
+use Rattle.std.specs.Prelude.{Ok, Err}
 use Rattle.refusals.specs.Checks.{NoneOf, refuses, answers}
 use Rattle.refusals.proofs.Theorems.{zero_is_answered}
 use Rattle.sheets.specs.Grammar.{most_states, sheet, EachWritable, EachSection}
 use Rattle.readings.specs.Readers.{most_bytes}
-use Rattle.measures.specs.declared.reply.WriteReply.TheVariants.{ListsUnfit, TooManyDigits, NoRoom}
-use Rattle.measures.specs.declared.reply.WriteReply.TheVariants as Reply
+use Rattle.measures.specs.declared.reply.WriteRefusal.TheVariants.{ListsUnfit, TooManyDigits, NoRoom}
 use Rattle.measures.specs.declared.reply.WriteFigures.{WriteFigures}
 use Rattle.measures.specs.Columns.{Columns, paired, lists_of}
 use Rattle.measures.specs.Checks as checks
@@ -21,18 +21,18 @@ use Rattle.measures.specs.Inside.{MakesSection, EachMakesSection}
 use Rattle.measures.proofs.Sections.{paired_long}
 
 module _ (fluids : List Columns) {room : ℕ} where
-  pub tells_unfit : Some Unfit fluids → Told fluids room (figures_of ListsUnfit)
+  pub tells_unfit : Some Unfit fluids → Told fluids room (figures_of (Err ListsUnfit))
   tells_unfit unfit = refuses 8 (inl (unfit, refl)) refl
 
   module _ (fit : Some Unfit fluids → ⊥) where
-    pub tells_digits : Some HasTooManyDigits fluids → Told fluids room (figures_of TooManyDigits)
+    pub tells_digits : Some HasTooManyDigits fluids → Told fluids room (figures_of (Err TooManyDigits))
     tells_digits many = refuses 9 (inr (fit, inl (many, refl))) refl
 
     module _ (few : Some HasTooManyDigits fluids → ⊥) {long : ℕ} (is_length : long ≡ length (sheet (lists_of fluids))) where
-      pub tells_no_room : (room < long) ⊎ (most_bytes < long) → Told fluids room (figures_of NoRoom)
+      pub tells_no_room : (room < long) ⊎ (most_bytes < long) → Told fluids room (figures_of (Err NoRoom))
       tells_no_room no_room = refuses 10 (inr (fit, inr (few, inl (rw is_length at no_room, refl)))) refl
 
-      pub tells_length : long ≤ room → long ≤ most_bytes → Told fluids room (figures_of (Reply.Written long))
+      pub tells_length : long ≤ room → long ≤ most_bytes → Told fluids room (figures_of (Ok long))
       tells_length has_room short =
           answers (fit, (few, (⊎_elim (λ no_room. omega arith) (λ too_long. omega arith), tt))) (ap (λ (n : ℕ). record { number = 0; length = n }) is_length)
 
@@ -90,7 +90,7 @@ abbrev pub length_in : WriteFigures → ℕ
 length_in figures = figures.length
 
 module _ (fluids : List Columns) where
-  pub told_length : {room long : ℕ} → Told fluids room (figures_of (Reply.Written long)) → Passes fluids room long
+  pub told_length : {room long : ℕ} → Told fluids room (figures_of (Ok long)) → Passes fluids room long
   told_length {room} {long} told =
       let passed = zero_is_answered number_in (write_checks fluids room) refl (λ refusal is_told. ap number_in is_told) refl told in
       let not_small : room < length (sheet (lists_of fluids)) → ⊥ = λ small. passed.0.1.1.0 (inl small) in

@@ -8,29 +8,29 @@ use native.Mathlib.Omega.{arith}
 use native.Mathlib.Decide.{dec_le, dec_lt, ℕ_discrete}
 use lib.Dec.{eqb}
 use lib.ListN.{length}
+use Rattle.std.specs.Prelude.{Ok, Err}
 use Rattle.refusals.proofs.Theorems.{tells_once}
 use Rattle.sheets.specs.Grammar.{most_states, eleven_digits, sheet}
 use Rattle.readings.specs.Readers.{most_bytes}
-use Rattle.measures.specs.declared.reply.WriteReply.{WriteReply}
-use Rattle.measures.specs.declared.reply.WriteReply.TheVariants.{Written, ListsUnfit, TooManyDigits, NoRoom}
+use Rattle.measures.specs.declared.reply.WriteRefusal.TheVariants.{ListsUnfit, TooManyDigits, NoRoom}
 use Rattle.measures.specs.declared.reply.WriteFigures.{WriteFigures}
 use Rattle.measures.specs.Columns.{Columns, lists_of}
 use Rattle.measures.specs.Checks as checks
 use Rattle.measures.specs.Checks.{Some, Unfit, HasTooManyDigits, write_checks}
-use Rattle.measures.specs.Replies.{figures_of, Told}
+use Rattle.measures.specs.Replies.{WriteReply, figures_of, Told}
 use Rattle.measures.proofs.Telling.{tells_unfit, tells_digits, tells_no_room, tells_length}
 
 -- the way back from figures to the reply
 unfoldable pub reply_of : WriteFigures → WriteReply
 reply_of figures =
-    cond (eqb figures.number 0) (Written figures.length) (cond (eqb figures.number 8) ListsUnfit (cond (eqb figures.number 9) TooManyDigits NoRoom))
+    cond (eqb figures.number 0) (Ok figures.length) (Err (cond (eqb figures.number 8) ListsUnfit (cond (eqb figures.number 9) TooManyDigits NoRoom)))
 
 reply_of_figures : (reply : WriteReply) → reply_of (figures_of reply) ≡ reply
 unfolding reply_of
-reply_of_figures (Written long) = refl
-reply_of_figures ListsUnfit = refl
-reply_of_figures TooManyDigits = refl
-reply_of_figures NoRoom = refl
+reply_of_figures (Ok long) = refl
+reply_of_figures (Err ListsUnfit) = refl
+reply_of_figures (Err TooManyDigits) = refl
+reply_of_figures (Err NoRoom) = refl
 
 pub figures_determine_reply : (reply other : WriteReply) → figures_of reply ≡ figures_of other → reply ≡ other
 figures_determine_reply reply other same = sym (reply_of_figures reply) ∙ ap reply_of same ∙ reply_of_figures other
@@ -73,8 +73,8 @@ every_list_is_told fluids room = by_fit (some_or_none unfit_or_not fluids) (some
     long = length (sheet (lists_of fluids))
 
     by_fit : Dec (Some Unfit fluids) → Dec (Some HasTooManyDigits fluids) → Dec (long ≤ room) → Dec (long ≤ most_bytes) → (reply : WriteReply) × Told fluids room (figures_of reply)
-    by_fit (yes unfit) many has_room short = (ListsUnfit, tells_unfit fluids unfit)
-    by_fit (no fit) (yes many) has_room short = (TooManyDigits, tells_digits fluids fit many)
-    by_fit (no fit) (no few) (no no_room) short = (NoRoom, tells_no_room fluids fit few refl (inl (omega arith)))
-    by_fit (no fit) (no few) (yes has_room) (no too_long) = (NoRoom, tells_no_room fluids fit few refl (inr (omega arith)))
-    by_fit (no fit) (no few) (yes has_room) (yes short) = (Written long, tells_length fluids fit few refl has_room short)
+    by_fit (yes unfit) many has_room short = (Err ListsUnfit, tells_unfit fluids unfit)
+    by_fit (no fit) (yes many) has_room short = (Err TooManyDigits, tells_digits fluids fit many)
+    by_fit (no fit) (no few) (no no_room) short = (Err NoRoom, tells_no_room fluids fit few refl (inl (omega arith)))
+    by_fit (no fit) (no few) (yes has_room) (no too_long) = (Err NoRoom, tells_no_room fluids fit few refl (inr (omega arith)))
+    by_fit (no fit) (no few) (yes has_room) (yes short) = (Ok long, tells_length fluids fit few refl has_room short)

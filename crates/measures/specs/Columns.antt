@@ -1,6 +1,8 @@
 -- docs/RULES.md, "A sheet written": what is to be written, for each fluid a list of temperatures and a list of pressures.
 use Rattle.std.specs.Prelude.{List, [], ◌∷◌, map, ℕ}
 use Rattle.sheets.specs.Grammar.{Pair}
+use Rattle.measures.specs.declared.lists.Columns as declared
+use Rattle.measures.specs.declared.lists.Lists.{Lists}
 
 -- the two lists of a fluid
 pub record Columns : Type 0 where
@@ -27,3 +29,11 @@ fluids_of hydrogen_millikelvin hydrogen_pascals oxygen_millikelvin oxygen_pascal
     ∷ record { millikelvin = oxygen_millikelvin; pascals = oxygen_pascals }
     ∷ record { millikelvin = nitrogen_millikelvin; pascals = nitrogen_pascals }
     ∷ []
+
+-- the lists that a caller lends
+abbrev pub columns_lent : declared.Columns → Columns
+columns_lent columns = record { millikelvin = columns.millikelvin.now; pascals = columns.pascals.now }
+
+abbrev pub fluids_lent : Lists → List Columns
+fluids_lent lists =
+    fluids_of lists.hydrogen.millikelvin.now lists.hydrogen.pascals.now lists.oxygen.millikelvin.now lists.oxygen.pascals.now lists.nitrogen.millikelvin.now lists.nitrogen.pascals.now

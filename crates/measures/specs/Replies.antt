@@ -1,9 +1,9 @@
 -- docs/RULES.md, "A sheet written": what is told of lists, where there is room for so many bytes.
-use Rattle.std.specs.Prelude.{◌≡◌, List, ℕ, length}
+use Rattle.std.specs.Prelude.{◌≡◌, List, ℕ, length, Result, Ok, Err}
 use Rattle.refusals.specs.Checks.{Tells}
 use Rattle.sheets.specs.Grammar.{sheet}
-use Rattle.measures.specs.declared.reply.WriteReply.{WriteReply}
-use Rattle.measures.specs.declared.reply.WriteReply.TheVariants.{Written, ListsUnfit, TooManyDigits, NoRoom}
+use Rattle.measures.specs.declared.reply.WriteRefusal.{WriteRefusal}
+use Rattle.measures.specs.declared.reply.WriteRefusal.TheVariants.{ListsUnfit, TooManyDigits, NoRoom}
 use Rattle.measures.specs.declared.reply.WriteFigures.{WriteFigures}
 use Rattle.measures.specs.Columns.{Columns, lists_of}
 use Rattle.measures.specs.Checks.{write_checks}
@@ -14,11 +14,15 @@ answered bytes = record { number = 0; length = length bytes }
 abbrev pub refused_with : (refusal : ℕ) → WriteFigures
 refused_with refusal = record { number = refusal; length = 0 }
 
+-- how long the sheet is, or why there is none
+abbrev pub WriteReply : Type 0
+WriteReply = Result ℕ WriteRefusal
+
 abbrev pub figures_of : WriteReply → WriteFigures
-figures_of (Written long) = record { number = 0; length = long }
-figures_of ListsUnfit = refused_with 8
-figures_of TooManyDigits = refused_with 9
-figures_of NoRoom = refused_with 10
+figures_of (Ok long) = record { number = 0; length = long }
+figures_of (Err ListsUnfit) = refused_with 8
+figures_of (Err TooManyDigits) = refused_with 9
+figures_of (Err NoRoom) = refused_with 10
 
 -- a refusal has no length
 abbrev pub NumberAndZero : (refusal : ℕ) → WriteFigures → Type 0

@@ -1,83 +1,48 @@
 // Whether lists may stand in a sheet: how many numbers they have, and how many digits a number.
-ghost use Rattle.measures.specs.Columns.{fluids_of};
+ghost use Rattle.measures.specs.Columns.{columns_lent, fluids_lent};
 ghost use Rattle.measures.specs.Checks.{Some, Unfit, TooManyDigits, HasTooManyDigits};
 ghost use Rattle.measures.specs.Inside.{Decides};
 
+use crate::lists::{Columns, Lists};
 use lines::MOST_STATES;
 
 // The largest number of ten digits.
 const MOST_NUMBER: u64 = 9_999_999_999;
 
 // Whether a fluid's two lists are too long or of unequal lengths.
-fn unfit(millikelvin: &[u64], pascals: &[u64]) -> bool
-    ensures { Decides (Unfit (record { millikelvin = millikelvin.now; pascals = pascals.now })) result }
+fn unfit(columns: Columns) -> bool
+    ensures { Decides (Unfit (columns_lent columns.entry)) result }
 {
-    if MOST_STATES < millikelvin.len() as u64 {
-        return true;
-    }
-    if millikelvin.len() != pascals.len() {
-        return true;
-    }
-    false
+    MOST_STATES < columns.millikelvin.len() as u64
+        || columns.millikelvin.len() != columns.pascals.len()
 }
 
 // Whether those of one fluid are.
-pub(crate) fn any_unfit(
-    hydrogen_millikelvin: &[u64],
-    hydrogen_pascals: &[u64],
-    oxygen_millikelvin: &[u64],
-    oxygen_pascals: &[u64],
-    nitrogen_millikelvin: &[u64],
-    nitrogen_pascals: &[u64],
-) -> bool
-    ensures { Decides (Some Unfit (fluids_of hydrogen_millikelvin.now hydrogen_pascals.now oxygen_millikelvin.now oxygen_pascals.now nitrogen_millikelvin.now nitrogen_pascals.now)) result }
+pub(crate) fn any_unfit(lists: Lists) -> bool
+    ensures { Decides (Some Unfit (fluids_lent lists.entry)) result }
 {
-    if unfit(hydrogen_millikelvin, hydrogen_pascals) {
-        return true;
-    }
-    if unfit(oxygen_millikelvin, oxygen_pascals) {
-        return true;
-    }
-    unfit(nitrogen_millikelvin, nitrogen_pascals)
+    unfit(lists.hydrogen) || unfit(lists.oxygen) || unfit(lists.nitrogen)
 }
 
 // Whether a number of a list has more than ten digits.
 fn over_ten_digits(numbers: &[u64]) -> bool
     ensures { Decides (Some TooManyDigits numbers.now) result }
 {
-    for taken in 0..numbers.len() {
-        if MOST_NUMBER < numbers[taken] {
-            return true;
-        }
-    }
-    false
+    numbers.iter().any(|&number| MOST_NUMBER < number)
+}
+
+// Whether one of either list of a fluid has.
+fn has_over_ten_digits(columns: Columns) -> bool
+    ensures { Decides (HasTooManyDigits (columns_lent columns.entry)) result }
+{
+    over_ten_digits(columns.millikelvin) || over_ten_digits(columns.pascals)
 }
 
 // Whether one of any list has.
-pub(crate) fn any_over_ten_digits(
-    hydrogen_millikelvin: &[u64],
-    hydrogen_pascals: &[u64],
-    oxygen_millikelvin: &[u64],
-    oxygen_pascals: &[u64],
-    nitrogen_millikelvin: &[u64],
-    nitrogen_pascals: &[u64],
-) -> bool
-    ensures { Decides (Some HasTooManyDigits (fluids_of hydrogen_millikelvin.now hydrogen_pascals.now oxygen_millikelvin.now oxygen_pascals.now nitrogen_millikelvin.now nitrogen_pascals.now)) result }
+pub(crate) fn any_over_ten_digits(lists: Lists) -> bool
+    ensures { Decides (Some HasTooManyDigits (fluids_lent lists.entry)) result }
 {
-    if over_ten_digits(hydrogen_millikelvin) {
-        return true;
-    }
-    if over_ten_digits(hydrogen_pascals) {
-        return true;
-    }
-    if over_ten_digits(oxygen_millikelvin) {
-        return true;
-    }
-    if over_ten_digits(oxygen_pascals) {
-        return true;
-    }
-    if over_ten_digits(nitrogen_millikelvin) {
-        return true;
-    }
-    over_ten_digits(nitrogen_pascals)
+    has_over_ten_digits(lists.hydrogen)
+        || has_over_ten_digits(lists.oxygen)
+        || has_over_ten_digits(lists.nitrogen)
 }

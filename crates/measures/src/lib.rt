@@ -3,58 +3,38 @@
 #![tactic(auto)]
 
 mod fits;
+mod lists;
 mod reply;
 mod sizes;
 
-ghost use Rattle.measures.specs.Columns.{fluids_of};
+ghost use Rattle.measures.specs.Columns.{fluids_lent};
 ghost use Rattle.measures.specs.Replies.{figures_of, Told};
 
 use crate::fits::{any_over_ten_digits, any_unfit};
 use crate::sizes::section_length;
+pub use lists::{Columns, Lists};
 use readings::MOST_BYTES;
-pub use reply::{WriteFigures, WriteReply};
+pub use reply::{WriteFigures, WriteRefusal, WriteReply};
 
 // What is told of the lists where there is room for so many bytes, in the order of the rules.
-pub fn measure(
-    hydrogen_millikelvin: &[u64],
-    hydrogen_pascals: &[u64],
-    oxygen_millikelvin: &[u64],
-    oxygen_pascals: &[u64],
-    nitrogen_millikelvin: &[u64],
-    nitrogen_pascals: &[u64],
-    room: usize,
-) -> WriteReply
-    ensures { Told (fluids_of hydrogen_millikelvin.now hydrogen_pascals.now oxygen_millikelvin.now oxygen_pascals.now nitrogen_millikelvin.now nitrogen_pascals.now) room (figures_of result) }
+pub fn measure(lists: Lists, room: usize) -> WriteReply
+    ensures { Told (fluids_lent lists.entry) room (figures_of result) }
 {
-    if any_unfit(
-        hydrogen_millikelvin,
-        hydrogen_pascals,
-        oxygen_millikelvin,
-        oxygen_pascals,
-        nitrogen_millikelvin,
-        nitrogen_pascals,
-    ) {
-        return WriteReply::ListsUnfit;
+    if any_unfit(lists) {
+        return Err(WriteRefusal::ListsUnfit);
     }
-    if any_over_ten_digits(
-        hydrogen_millikelvin,
-        hydrogen_pascals,
-        oxygen_millikelvin,
-        oxygen_pascals,
-        nitrogen_millikelvin,
-        nitrogen_pascals,
-    ) {
-        return WriteReply::TooManyDigits;
+    if any_over_ten_digits(lists) {
+        return Err(WriteRefusal::TooManyDigits);
     }
-    let hydrogen = section_length(hydrogen_millikelvin, hydrogen_pascals);
-    let oxygen = section_length(oxygen_millikelvin, oxygen_pascals);
-    let nitrogen = section_length(nitrogen_millikelvin, nitrogen_pascals);
+    let hydrogen = section_length(lists.hydrogen);
+    let oxygen = section_length(lists.oxygen);
+    let nitrogen = section_length(lists.nitrogen);
     let length = hydrogen + oxygen + nitrogen;
     if room < length {
-        return WriteReply::NoRoom;
+        return Err(WriteRefusal::NoRoom);
     }
     if MOST_BYTES < length {
-        return WriteReply::NoRoom;
+        return Err(WriteRefusal::NoRoom);
     }
-    WriteReply::Written { length }
+    Ok(length)
 }

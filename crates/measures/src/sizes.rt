@@ -2,7 +2,9 @@
 ghost use Rattle.sheets.specs.Grammar.{Writable};
 ghost use Rattle.measures.specs.Inside.{Width, MakesSection, SectionLength};
 
-// How many digits a number of at most ten has.
+use crate::lists::Columns;
+
+// How many digits a number of at most ten has. The loop counts these, no index; the library has no ilog10.
 fn width(number: u64) -> usize
     requires { Writable number }
     ensures { Width number result }
@@ -18,13 +20,13 @@ fn width(number: u64) -> usize
 }
 
 // A count line, and the state lines behind it: every line has its end, and a state line its space.
-pub(crate) fn section_length(millikelvin: &[u64], pascals: &[u64]) -> usize
-    requires { MakesSection millikelvin.now pascals.now }
-    ensures { SectionLength millikelvin.now pascals.now result }
+pub(crate) fn section_length(columns: Columns) -> usize
+    requires { MakesSection columns.millikelvin.now columns.pascals.now }
+    ensures { SectionLength columns.entry.millikelvin.now columns.entry.pascals.now result }
 {
-    let mut length = width(millikelvin.len() as u64) + 1;
-    for taken in 0..millikelvin.len() {
-        length += width(millikelvin[taken]) + width(pascals[taken]) + 2;
+    let mut length = width(columns.millikelvin.len() as u64) + 1;
+    for (&temperature, &pressure) in columns.millikelvin.iter().zip(columns.pascals) {
+        length += width(temperature) + width(pressure) + 2;
     }
     length
 }

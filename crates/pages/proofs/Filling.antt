@@ -1,10 +1,10 @@
 -- Texts that fill columns of a buffer, one behind another. Assumes nothing.
 use mathlib.Core.Path.{◌≡◌, refl, sym, ap, ◌∙◌}
-use mathlib.Core.List.{List, [], ◌∷◌, ◌++◌, append-nil}
+use mathlib.Core.List.{List, [], ◌∷◌, ◌++◌}
 use Prim.Native.Nat.{ℕ, ◌+◌, ◌-◌, ◌≤◌}
 use native.Mathlib.Nat.{add-sub_of_le, sub-add_cancel}
 use native.Mathlib.Omega.{arith}
-use lib.ListN.{length, take, length-append, length-replicate, replicate-append-replicate, drop_of_length-le}
+use lib.ListN.{length, take, length-append, length-replicate, replicate-append-replicate}
 use lib.Seq.{take_at}
 use Rattle.sheets.specs.Grammar.{space, line_end}
 use Rattle.buffers.specs.Puts.{Puts}
@@ -27,12 +27,6 @@ both_fill {text = text} {other = other} {before = before} {at = at} one two =
 
 pub same_fills : {columns : ℕ} {text same before after : List ℕ} {at next : ℕ} → Fills columns text before at after next → text ≡ same → Fills columns same before at after next
 same_fills fills is_same = rw is_same at fills
-
--- what fills the whole buffer is all that is in it
-pub whole_filled : {columns next : ℕ} {text before after : List ℕ} → length before ≡ columns → Fills columns text before 0 after next → after ≡ text
-whole_filled {text = text} {before = before} long fills =
-    let all : length before ≤ 0 + length text = omega (arith, long, fills.wide) in
-    fills.holds.is_after ∙ ap (λ (l : List ℕ). text ++ l) (drop_of_length-le before all) ∙ append-nil text
 
 -- the first of more spaces
 pub first_spaces : (many more : ℕ) → many ≤ more → take many (spaces more) ≡ spaces many

@@ -3,15 +3,15 @@
 // function fills some columns of the buffer from a place on, and answers the place behind them.
 #![tactic(auto)]
 
-ghost use Rattle.std.specs.Prelude.{◌≡◌, ◌+◌, ◌*◌, ◌≤◌, length};
+ghost use Rattle.std.specs.Prelude.{◌≡◌, ◌+◌, ◌≤◌, length};
 ghost use Rattle.sheets.specs.Grammar.{digits};
 ghost use Rattle.buffers.specs.Puts.{most_digits};
 ghost use Rattle.pages.specs.Columns.{label_columns, cell_columns, line_bytes, spaces, left_aligned, right_aligned};
-ghost use Rattle.pages.specs.Pages.{heading, kinds, refusals, densities, row_text, page_text, page_bytes};
-ghost use Rattle.pages.specs.Filling.{Fills, RowsFill, rows_bytes, reached_text};
+ghost use Rattle.pages.specs.Pages.{heading, kinds, refusals, densities, page_text, page_bytes};
+ghost use Rattle.pages.specs.Filling.{Fills, RowFills, RowsFill, rows_bytes};
 
 use buffers::{MOST_DIGITS, put, put_number};
-use tallies::{Reached, Report};
+use tallies::{Report, Section};
 
 // The longest label has 24 letters.
 const LABEL_COLUMNS: usize = 24;
@@ -71,21 +71,22 @@ fn put_heading(buffer: &mut [u8]) -> usize
     put(buffer, heading_end, b"\n")
 }
 
-fn put_row(
+// The figure of each section, behind a label.
+fn put_row<F: Fn(Section) -> u64>(
     buffer: &mut [u8],
     at: usize,
     label: &[u8],
-    hydrogen: u64,
-    oxygen: u64,
-    nitrogen: u64,
+    report: Report,
+    figure: F,
 ) -> usize
-    requires { (length label.now ≤ label_columns) × (at + line_bytes ≤ length buffer.old) }
-    ensures { Fills line_bytes (row_text label.now hydrogen oxygen nitrogen) buffer.old at buffer.new result }
+    requires fits { (length label.now ≤ label_columns) × (at + line_bytes ≤ length buffer.old) }
+    requires callable { F.IsAlwaysCallable figure }
+    ensures { RowFills (F.post figure) label.now report buffer.old at buffer.new result }
 {
     let first = put_label(buffer, at, label);
-    let second = put_figure(buffer, first, hydrogen);
-    let third = put_figure(buffer, second, oxygen);
-    let row_end = put_figure(buffer, third, nitrogen);
+    let second = put_figure(buffer, first, figure(report.hydrogen));
+    let third = put_figure(buffer, second, figure(report.oxygen));
+    let row_end = put_figure(buffer, third, figure(report.nitrogen));
     put(buffer, row_end, b"\n")
 }
 
@@ -93,22 +94,8 @@ fn put_kinds(buffer: &mut [u8], at: usize, report: Report) -> usize
     requires { at + rows_bytes kinds ≤ length buffer.old }
     ensures { RowsFill report kinds buffer.old at buffer.new result }
 {
-    let split = put_row(
-        buffer,
-        at,
-        b"ONE",
-        report.hydrogen.one,
-        report.oxygen.one,
-        report.nitrogen.one,
-    );
-    put_row(
-        buffer,
-        split,
-        b"SPLIT",
-        report.hydrogen.split,
-        report.oxygen.split,
-        report.nitrogen.split,
-    )
+    let split = put_row(buffer, at, b"ONE", report, |section| section.one);
+    put_row(buffer, split, b"SPLIT", report, |section| section.split)
 }
 
 fn put_refusals(buffer: &mut [u8], at: usize, report: Report) -> usize
@@ -119,66 +106,33 @@ fn put_refusals(buffer: &mut [u8], at: usize, report: Report) -> usize
         buffer,
         at,
         b"NO 21, too cold",
-        report.hydrogen.temperature_too_low,
-        report.oxygen.temperature_too_low,
-        report.nitrogen.temperature_too_low,
+        report,
+        |section| section.temperature_too_low,
     );
     let too_low = put_row(
         buffer,
         too_hot,
         b"NO 22, too hot",
-        report.hydrogen.temperature_too_high,
-        report.oxygen.temperature_too_high,
-        report.nitrogen.temperature_too_high,
+        report,
+        |section| section.temperature_too_high,
     );
     let too_high = put_row(
         buffer,
         too_low,
         b"NO 31, pressure too low",
-        report.hydrogen.pressure_too_low,
-        report.oxygen.pressure_too_low,
-        report.nitrogen.pressure_too_low,
+        report,
+        |section| section.pressure_too_low,
     );
     put_row(
         buffer,
         too_high,
         b"NO 32, pressure too high",
-        report.hydrogen.pressure_too_high,
-        report.oxygen.pressure_too_high,
-        report.nitrogen.pressure_too_high,
+        report,
+        |section| section.pressure_too_high,
     )
 }
 
-// A density, and below it the line of the first state that reaches it.
-fn put_reached(
-    buffer: &mut [u8],
-    at: usize,
-    label: &[u8],
-    hydrogen: Reached,
-    oxygen: Reached,
-    nitrogen: Reached,
-) -> usize
-    requires { (length label.now ≤ label_columns) × (at + 2 * line_bytes ≤ length buffer.old) }
-    ensures { Fills (2 * line_bytes) (reached_text label.now hydrogen oxygen nitrogen) buffer.old at buffer.new result }
-{
-    let line = put_row(
-        buffer,
-        at,
-        label,
-        hydrogen.density,
-        oxygen.density,
-        nitrogen.density,
-    );
-    put_row(
-        buffer,
-        line,
-        b"first on line",
-        hydrogen.line,
-        oxygen.line,
-        nitrogen.line,
-    )
-}
-
+// Below the smallest and the largest density stands the line of the first state that reaches it.
 fn put_densities(buffer: &mut [u8], at: usize, report: Report) -> usize
     requires { at + rows_bytes densities ≤ length buffer.old }
     ensures { RowsFill report densities buffer.old at buffer.new result }
@@ -187,25 +141,36 @@ fn put_densities(buffer: &mut [u8], at: usize, report: Report) -> usize
         buffer,
         at,
         b"sum of gas densities",
-        report.hydrogen.sum,
-        report.oxygen.sum,
-        report.nitrogen.sum,
+        report,
+        |section| section.sum,
     );
-    let largest = put_reached(
+    let smallest_line = put_row(
         buffer,
         smallest,
         b"smallest gas density",
-        report.hydrogen.smallest,
-        report.oxygen.smallest,
-        report.nitrogen.smallest,
+        report,
+        |section| section.smallest.density,
     );
-    put_reached(
+    let largest = put_row(
+        buffer,
+        smallest_line,
+        b"first on line",
+        report,
+        |section| section.smallest.line,
+    );
+    let largest_line = put_row(
         buffer,
         largest,
         b"largest gas density",
-        report.hydrogen.largest,
-        report.oxygen.largest,
-        report.nitrogen.largest,
+        report,
+        |section| section.largest.density,
+    );
+    put_row(
+        buffer,
+        largest_line,
+        b"first on line",
+        report,
+        |section| section.largest.line,
     )
 }
 

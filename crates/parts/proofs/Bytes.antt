@@ -7,9 +7,8 @@ use native.Mathlib.Omega.{arith}
 use lib.ListN.{take, drop}
 use lib.Seq.{take-add}
 use Rattle.sheets.specs.declared.State.{State}
-use Rattle.parts.specs.declared.Reader.{Reader}
-use Rattle.parts.specs.declared.Reader.TheVariants.{Open, Malformed, TooLong}
-use Rattle.parts.specs.Bytes.{Outcome, quiet, takes_byte, then, taking}
+use Rattle.parts.specs.Bytes.{Reader, Outcome, quiet, takes_byte, then, taking}
+use Rattle.std.specs.Prelude.{Ok, Err}
 
 pub then_assoc : (one two three : Outcome) → then one (then two three) ≡ then (then one two) three
 then_assoc one two three =
@@ -28,17 +27,14 @@ behind_quiet reader first second is = both reader first second ∙ ap (λ (o : O
 
 -- what stands, whatever comes
 abbrev pub Stays : Reader → Type 0
-Stays (Open standing) = ⊥
-Stays (Malformed place) = Unit {0}
-Stays TooLong = Unit {0}
+Stays (Ok standing) = ⊥
+Stays (Err fault) = Unit {0}
 
 pub stays : (reader : Reader) → Stays reader → (bytes : List ℕ) → taking reader bytes ≡ quiet reader
 unfolding taking
-stays (Open standing) never bytes = absurd never
-stays (Malformed place) fault [] = refl
-stays (Malformed place) fault (byte ∷ bytes) = stays (Malformed place) fault bytes
-stays TooLong fault [] = refl
-stays TooLong fault (byte ∷ bytes) = stays TooLong fault bytes
+stays (Ok standing) never bytes = absurd never
+stays (Err fault) is_fault [] = refl
+stays (Err fault) is_fault (byte ∷ bytes) = stays (Err fault) is_fault bytes
 
 -- a fault that bytes met is met by any that begin with them
 pub met_stays : (reader : Reader) {fault : Reader} (first second : List ℕ) → Stays fault → taking reader first ≡ quiet fault → taking reader (first ++ second) ≡ quiet fault

@@ -7,11 +7,9 @@ use native.Mathlib.Omega.{arith}
 use lib.ListN.{length, take, drop, take-append-drop}
 use lib.Seq.{take-take}
 use Rattle.sheets.specs.declared.State.{State}
-use Rattle.parts.specs.declared.Reader.{Reader}
-use Rattle.parts.specs.declared.Brought.{Brought}
-use Rattle.parts.specs.declared.Brought.TheVariants as Brought
+use Rattle.parts.specs.Bytes.{Reader, Outcome, then, taking}
+use Rattle.std.specs.Prelude.{Option, Some, None}
 use Rattle.parts.specs.declared.Taken.{Taken}
-use Rattle.parts.specs.Bytes.{Outcome, then, taking}
 use Rattle.parts.specs.Takes.{EndsState, UsesUp, TakesAs, Takes}
 use Rattle.parts.specs.Served.{Served, ServedAll, joined}
 use Rattle.parts.proofs.Bytes.{both, quiet_before}
@@ -64,16 +62,16 @@ module _ (reader : Reader) (part : List ℕ) where
       let states = ap (λ (o : Outcome). o.states) outcome in
       (cc, ap (λ (o : Outcome). o.after) outcome)
 
-  same_reply : (brought brought' : Brought) {taken taken' : ℕ} {after after' : Reader} → TakesAs reader part brought taken after → TakesAs reader part brought' taken' after' → ◌≡◌ {A = Taken} (record { reader = after; brought = brought; taken = taken }) (record { reader = after'; brought = brought'; taken = taken' })
-  same_reply (Brought.State state) (Brought.State state') {taken} {taken'} ends ends' =
+  same_reply : (brought brought' : Option State) {taken taken' : ℕ} {after after' : Reader} → TakesAs reader part brought taken after → TakesAs reader part brought' taken' after' → ◌≡◌ {A = Taken} (record { reader = after; brought = brought; taken = taken }) (record { reader = after'; brought = brought'; taken = taken' })
+  same_reply (Some state) (Some state') {taken} {taken'} ends ends' =
       let not_before = not_sooner ends ends' in
       let not_behind = not_sooner ends' ends in
       let same : taken ≡ taken' = omega arith in
       let both_same = same_end ends ends' same in
       cc (same, both_same.0, both_same.1)
-  same_reply (Brought.State state) Brought.Nothing ends used = absurd (not_used_up ends used)
-  same_reply Brought.Nothing (Brought.State state') used ends = absurd (not_used_up ends used)
-  same_reply Brought.Nothing Brought.Nothing used used' =
+  same_reply (Some state) None ends used = absurd (not_used_up ends used)
+  same_reply None (Some state') used ends = absurd (not_used_up ends used)
+  same_reply None None used used' =
       let same = used.is_taken ∙ sym used'.is_taken in
       let outcome = sym used.brings ∙ used'.brings in
       cc (same, ap (λ (o : Outcome). o.after) outcome)

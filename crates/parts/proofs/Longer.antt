@@ -12,7 +12,8 @@ use borrow.Author.Tests.{leb-true}
 use Rattle.sheets.specs.declared.Cursor.{Cursor}
 use Rattle.sheets.specs.declared.Digest.{Digest}
 use Rattle.sheets.specs.declared.Digest.TheVariants.{Empty, First, AfterSpace, Second, Bad}
-use Rattle.sheets.specs.declared.Next.TheVariants as Next
+use Rattle.sheets.specs.declared.Fault.TheVariants.{Malformed, TooLong}
+use Rattle.std.specs.Prelude.{Ok, Err, Some, None}
 use Rattle.sheets.specs.declared.Line.{Line}
 use Rattle.sheets.specs.declared.Line.TheVariants.{Count, Told}
 use Rattle.sheets.specs.Grammar.{all_sections, most_states, line_end}
@@ -20,19 +21,17 @@ use Rattle.sheets.specs.Digests.{takes}
 use Rattle.sheets.specs.Lines.{faulty, counted, stated, ended, wants_line}
 use Rattle.readings.specs.Readers.{most_bytes}
 use Rattle.parts.specs.declared.Standing.{Standing}
-use Rattle.parts.specs.declared.Reader.{Reader}
-use Rattle.parts.specs.declared.Reader.TheVariants.{Open, Malformed, TooLong}
-use Rattle.parts.specs.Bytes.{longest_line, Outcome, quiet, at_start, total, behind_line, holds, reads, takes_byte, taking}
+use Rattle.parts.specs.Bytes.{Reader, longest_line, Outcome, quiet, at_start, total, behind_line, holds, reads, takes_byte, taking}
 use Rattle.parts.proofs.Bytes.{both, stays}
 use Rattle.parts.proofs.Texts.{passes_most, stops}
 
 -- the next line begins behind this one
 abbrev Behind : (next : ℕ) → Line → Type 0
 Behind next (Count after) = after.place ≡ next
-Behind next (Told (Next.State state after)) = after.place ≡ next
-Behind next (Told (Next.Malformed place)) = Unit {0}
-Behind next (Told Next.Over) = ⊥
-Behind next (Told Next.TooLong) = ⊥
+Behind next (Told (Ok (Some told))) = told.after.place ≡ next
+Behind next (Told (Err (Malformed place))) = Unit {0}
+Behind next (Told (Ok None)) = ⊥
+Behind next (Told (Err TooLong)) = ⊥
 
 module _ (cursor : Cursor) (next : ℕ) where
   counted_behind : (count : ℕ) → Behind next (counted all_sections cursor next count)
@@ -47,7 +46,7 @@ module _ (cursor : Cursor) (next : ℕ) where
   stated_behind : (millikelvin pascals : ℕ) → Behind next (stated cursor next millikelvin pascals)
   stated_behind millikelvin pascals = left_or_not (eqb cursor.left 0)
     where
-      left_or_not : (none : Bool) → Behind next (cond none (faulty cursor.place) (Told (Next.State (record { fluid = cursor.begun - 1; millikelvin = millikelvin; pascals = pascals }) (record { begun = cursor.begun; left = cursor.left - 1; place = next }))))
+      left_or_not : (none : Bool) → Behind next (cond none (faulty cursor.place) (Told (Ok (Some (record { state = record { fluid = cursor.begun - 1; millikelvin = millikelvin; pascals = pascals }; after = record { begun = cursor.begun; left = cursor.left - 1; place = next } })))))
       left_or_not true = tt
       left_or_not false = refl
 
@@ -60,23 +59,23 @@ module _ (cursor : Cursor) (next : ℕ) where
 
 -- so many bytes came: all are counted where no fault was met, and there are too many where 7 was
 abbrev pub Counts : (count : ℕ) → Reader → Type 0
-Counts count (Open standing) = total standing ≡ count
-Counts count (Malformed place) = Unit {0}
-Counts count TooLong = most_bytes < count
+Counts count (Ok standing) = total standing ≡ count
+Counts count (Err (Malformed place)) = Unit {0}
+Counts count (Err TooLong) = most_bytes < count
 
 line_counts : (line : Line) (state_lines count : ℕ) → Behind count line → Counts count (behind_line line state_lines).after
 line_counts (Count after) state_lines count behind = omega (arith, behind)
-line_counts (Told (Next.State state after)) state_lines count behind = omega (arith, behind)
-line_counts (Told (Next.Malformed place)) state_lines count behind = tt
-line_counts (Told Next.Over) state_lines count behind = absurd behind
-line_counts (Told Next.TooLong) state_lines count behind = absurd behind
+line_counts (Told (Ok (Some told))) state_lines count behind = omega (arith, behind)
+line_counts (Told (Err (Malformed place))) state_lines count behind = tt
+line_counts (Told (Ok None)) state_lines count behind = absurd behind
+line_counts (Told (Err TooLong)) state_lines count behind = absurd behind
 
 byte_counts : (reader : Reader) (byte count : ℕ) → Counts count reader → Counts (suc count) (takes_byte reader byte).after
-byte_counts (Malformed place) byte count counts = tt
-byte_counts TooLong byte count counts = omega arith
-byte_counts (Open standing) byte count counts = most_or_not (leb most_bytes (total standing)) refl
+byte_counts (Err (Malformed place)) byte count counts = tt
+byte_counts (Err TooLong) byte count counts = omega arith
+byte_counts (Ok standing) byte count counts = most_or_not (leb most_bytes (total standing)) refl
   where
-    many_or_not : (t : Bool) → Counts (suc count) (cond t (quiet (Malformed standing.cursor.place)) (quiet (Open (record { cursor = standing.cursor; digest = takes standing.digest byte; held = suc standing.held; state_lines = standing.state_lines })))).after
+    many_or_not : (t : Bool) → Counts (suc count) (cond t (quiet (Err (Malformed standing.cursor.place))) (quiet (Ok (record { cursor = standing.cursor; digest = takes standing.digest byte; held = suc standing.held; state_lines = standing.state_lines })))).after
     many_or_not true = tt
     many_or_not false = omega (arith, counts)
 
@@ -86,11 +85,11 @@ byte_counts (Open standing) byte count counts = most_or_not (leb most_bytes (tot
         (line_counts (ended all_sections standing.cursor (suc (total standing)) standing.digest) standing.state_lines (suc (total standing)) (ended_behind standing.cursor (suc (total standing)) standing.digest))
     end_or_not false = many_or_not (leb longest_line standing.held)
 
-    wanted_or_not : (t : Bool) → Counts (suc count) (cond t (reads standing byte) (quiet (Malformed standing.cursor.place))).after
+    wanted_or_not : (t : Bool) → Counts (suc count) (cond t (reads standing byte) (quiet (Err (Malformed standing.cursor.place)))).after
     wanted_or_not true = end_or_not (eqb byte line_end)
     wanted_or_not false = tt
 
-    most_or_not : (t : Bool) → leb most_bytes (total standing) ≡ t → Counts (suc count) (cond t (quiet TooLong) (cond (wants_line all_sections standing.cursor) (reads standing byte) (quiet (Malformed standing.cursor.place)))).after
+    most_or_not : (t : Bool) → leb most_bytes (total standing) ≡ t → Counts (suc count) (cond t (quiet (Err TooLong)) (cond (wants_line all_sections standing.cursor) (reads standing byte) (quiet (Err (Malformed standing.cursor.place))))).after
     most_or_not true e = let many = leb-true most_bytes (total standing) e in omega (arith, counts)
     most_or_not false e = wanted_or_not (wants_line all_sections standing.cursor)
 
@@ -107,10 +106,10 @@ from_start_counts bytes = subst (λ (n : ℕ). Counts n (taking at_start bytes).
 -- this fault was met within the most bytes, and stands
 pub record MetBefore (bytes : List ℕ) (after : Reader) : Type 0 where
   pub place : ℕ
-  pub met : (taking at_start (take most_bytes bytes)).after ≡ Malformed place
-  pub stands : after ≡ Malformed place
+  pub met : (taking at_start (take most_bytes bytes)).after ≡ Err (Malformed place)
+  pub stands : after ≡ Err (Malformed place)
 
-pub longer : (bytes : List ℕ) → most_bytes < length bytes → ((taking at_start bytes).after ≡ TooLong) ⊎ MetBefore bytes (taking at_start bytes).after
+pub longer : (bytes : List ℕ) → most_bytes < length bytes → ((taking at_start bytes).after ≡ Err TooLong) ⊎ MetBefore bytes (taking at_start bytes).after
 longer bytes long = by_reader (taking at_start first).after refl (from_start_counts first)
   where
     first : List ℕ
@@ -122,18 +121,18 @@ longer bytes long = by_reader (taking at_start first).after refl (from_start_cou
     then_rest : (taking at_start bytes).after ≡ (taking (taking at_start first).after rest).after
     then_rest = ap (λ (l : List ℕ). (taking at_start l).after) (sym (take-append-drop most_bytes bytes)) ∙ ap (λ (o : Outcome). o.after) (both at_start first rest)
 
-    passed : (standing : Standing) (bytes' : List ℕ) → 0 < length bytes' → most_bytes ≤ total standing → taking (Open standing) bytes' ≡ quiet TooLong
+    passed : (standing : Standing) (bytes' : List ℕ) → 0 < length bytes' → most_bytes ≤ total standing → taking (Ok standing) bytes' ≡ quiet (Err TooLong)
     passed standing [] some most = absurd (omega arith)
-    passed standing (byte ∷ bytes') some most = stops standing byte bytes' TooLong tt (passes_most standing byte most)
+    passed standing (byte ∷ bytes') some most = stops standing byte bytes' (Err TooLong) tt (passes_most standing byte most)
 
-    by_reader : (reader : Reader) → (taking at_start first).after ≡ reader → Counts (length first) (taking at_start first).after → ((taking at_start bytes).after ≡ TooLong) ⊎ MetBefore bytes (taking at_start bytes).after
-    by_reader (Open standing) is counts =
+    by_reader : (reader : Reader) → (taking at_start first).after ≡ reader → Counts (length first) (taking at_start first).after → ((taking at_start bytes).after ≡ Err TooLong) ⊎ MetBefore bytes (taking at_start bytes).after
+    by_reader (Ok standing) is counts =
         let counted_all : total standing ≡ length first = subst (Counts (length first)) is counts in
         inl (then_rest
         ∙ ap (λ (r : Reader). (taking r rest).after) is
         ∙ ap (λ (o : Outcome). o.after) (passed standing rest (omega (arith, length-drop most_bytes bytes)) (omega (arith, counted_all, length-take-le most_bytes bytes (omega arith)))))
-    by_reader (Malformed place) is counts =
-        inr (record { place = place; met = is; stands = then_rest ∙ ap (λ (r : Reader). (taking r rest).after) is ∙ ap (λ (o : Outcome). o.after) (stays (Malformed place) tt rest) })
-    by_reader TooLong is counts =
+    by_reader (Err (Malformed place)) is counts =
+        inr (record { place = place; met = is; stands = then_rest ∙ ap (λ (r : Reader). (taking r rest).after) is ∙ ap (λ (o : Outcome). o.after) (stays (Err (Malformed place)) tt rest) })
+    by_reader (Err TooLong) is counts =
         let many : most_bytes < length first = subst (Counts (length first)) is counts in
         absurd (omega (arith, many, length-take-le most_bytes bytes (omega arith)))

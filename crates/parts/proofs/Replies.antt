@@ -8,18 +8,15 @@ use native.Mathlib.Omega.{arith}
 use lib.Dec.{eqb, leb}
 use lib.ListN.{length, take, drop, length-drop}
 use Rattle.sheets.specs.declared.State.{State}
-use Rattle.sheets.specs.declared.Next.TheVariants as Next
+use Rattle.sheets.specs.declared.Fault.TheVariants.{Malformed, TooLong}
+use Rattle.std.specs.Prelude.{Ok, Err, Some, None, Option}
 use Rattle.sheets.specs.declared.Line.{Line}
 use Rattle.sheets.specs.declared.Line.TheVariants.{Count, Told}
 use Rattle.sheets.specs.Grammar.{all_sections, line_end}
 use Rattle.sheets.specs.Lines.{ended, wants_line}
 use Rattle.readings.specs.Readers.{most_bytes}
-use Rattle.parts.specs.declared.Reader.{Reader}
-use Rattle.parts.specs.declared.Reader.TheVariants.{Open, Malformed, TooLong}
-use Rattle.parts.specs.declared.Brought.{Brought}
-use Rattle.parts.specs.declared.Brought.TheVariants as Brought
+use Rattle.parts.specs.Bytes.{Reader, longest_line, Outcome, quiet, total, behind_line, holds, reads, takes_byte, taking}
 use Rattle.parts.specs.declared.Taken.{Taken}
-use Rattle.parts.specs.Bytes.{longest_line, Outcome, quiet, total, behind_line, holds, reads, takes_byte, taking}
 use Rattle.parts.specs.Takes.{TakesAs, Takes}
 use Rattle.parts.specs.Served.{Served, ServedAll}
 use Rattle.parts.proofs.Bytes.{first_byte, one_byte}
@@ -32,21 +29,19 @@ Few (state ∷ other ∷ states) = ⊥
 
 line_few : (line : Line) (state_lines : ℕ) → Few (behind_line line state_lines).states
 line_few (Count after) state_lines = tt
-line_few (Told (Next.State state after)) state_lines = tt
-line_few (Told (Next.Malformed place)) state_lines = tt
-line_few (Told Next.Over) state_lines = tt
-line_few (Told Next.TooLong) state_lines = tt
+line_few (Told (Ok (Some told))) state_lines = tt
+line_few (Told (Ok None)) state_lines = tt
+line_few (Told (Err fault)) state_lines = tt
 
 either_few : (t : Bool) (one other : Outcome) → Few one.states → Few other.states → Few (cond t one other).states
 either_few true one other few few' = few
 either_few false one other few few' = few'
 
 byte_few : (reader : Reader) (byte : ℕ) → Few (takes_byte reader byte).states
-byte_few (Malformed place) byte = tt
-byte_few TooLong byte = tt
-byte_few (Open standing) byte =
-    either_few (leb most_bytes (total standing)) (quiet TooLong) _ tt
-    (either_few (wants_line all_sections standing.cursor) (reads standing byte) (quiet (Malformed standing.cursor.place))
+byte_few (Err fault) byte = tt
+byte_few (Ok standing) byte =
+    either_few (leb most_bytes (total standing)) (quiet (Err TooLong)) _ tt
+    (either_few (wants_line all_sections standing.cursor) (reads standing byte) (quiet (Err (Malformed standing.cursor.place)))
     (either_few (eqb byte line_end) _ (holds standing byte)
     (line_few (ended all_sections standing.cursor (suc (total standing)) standing.digest) standing.state_lines)
     (either_few (leb longest_line standing.held) _ _ tt tt))
@@ -57,8 +52,8 @@ pub record Replied (reader : Reader) (part : List ℕ) : Type 0 where
   pub takes : Takes reader part reply
 
 -- a byte that brings nothing, and then what the rest has
-behind_byte : (reader : Reader) (byte : ℕ) (part : List ℕ) {between : Reader} → takes_byte reader byte ≡ quiet between → (brought : Brought) (taken : ℕ) (after : Reader) → TakesAs between part brought taken after → TakesAs reader (byte ∷ part) brought (suc taken) after
-behind_byte reader byte part {between} is (Brought.State state) taken after ends =
+behind_byte : (reader : Reader) (byte : ℕ) (part : List ℕ) {between : Reader} → takes_byte reader byte ≡ quiet between → (brought : Option State) (taken : ℕ) (after : Reader) → TakesAs between part brought taken after → TakesAs reader (byte ∷ part) brought (suc taken) after
+behind_byte reader byte part {between} is (Some state) taken after ends =
     record {
       before = suc ends.before;
       is_taken = ap suc ends.is_taken;
@@ -66,12 +61,12 @@ behind_byte reader byte part {between} is (Brought.State state) taken after ends
       none_before = ap (λ (o : Outcome). o.states) (first_byte reader byte (take ends.before part) is) ∙ ends.none_before;
       brings = first_byte reader byte (take taken part) is ∙ ends.brings;
     }
-behind_byte reader byte part {between} is Brought.Nothing taken after used =
+behind_byte reader byte part {between} is None taken after used =
     record { is_taken = ap suc used.is_taken; brings = first_byte reader byte part is ∙ used.brings }
 
 pub every_part_has_a_reply : (part : List ℕ) (reader : Reader) → Replied reader part
 unfolding taking
-every_part_has_a_reply [] reader = record { reply = record { reader = reader; brought = Brought.Nothing; taken = 0 }; takes = record { is_taken = refl; brings = refl } }
+every_part_has_a_reply [] reader = record { reply = record { reader = reader; brought = None; taken = 0 }; takes = record { is_taken = refl; brings = refl } }
 every_part_has_a_reply (byte ∷ part) reader =
     by_states (takes_byte reader byte).states refl (byte_few reader byte) (every_part_has_a_reply part (takes_byte reader byte).after)
   where
@@ -89,7 +84,7 @@ every_part_has_a_reply (byte ∷ part) reader =
         }
     by_states (state ∷ []) is few later =
         record {
-          reply = record { reader = between; brought = Brought.State state; taken = 1 };
+          reply = record { reader = between; brought = Some state; taken = 1 };
           takes = record { before = 0; is_taken = refl; inside = omega arith; none_before = refl; brings = one_byte reader byte ∙ is_byte is };
         }
     by_states (state ∷ other ∷ states) is few later = absurd (subst Few is few)
@@ -109,11 +104,11 @@ served_within (suc most) reader part few =
     first : Replied reader part
     first = every_part_has_a_reply part reader
 
-    by_brought : (brought : Brought) (taken : ℕ) (between : Reader) → TakesAs reader part brought taken between → ((taken : ℕ) (between : Reader) → length (drop taken part) < most → ServedFully between (drop taken part)) → ServedFully reader part
-    by_brought (Brought.State state) taken between ends later =
+    by_brought : (brought : Option State) (taken : ℕ) (between : Reader) → TakesAs reader part brought taken between → ((taken : ℕ) (between : Reader) → length (drop taken part) < most → ServedFully between (drop taken part)) → ServedFully reader part
+    by_brought (Some state) taken between ends later =
         let on = later taken between (omega (arith, length-drop taken part, ends.is_taken, ends.inside)) in
         record { states = state ∷ on.states; after = on.after; served = (taken, between, ends, on.served) }
-    by_brought Brought.Nothing taken after used later =
+    by_brought None taken after used later =
         record { states = []; after = after; served = record { is_taken = refl; brings = used.brings } }
 
 pub every_part_is_served : (reader : Reader) (part : List ℕ) → ServedFully reader part

@@ -12,7 +12,8 @@ use lib.Seq.{take_all, take-append-add, length-take-le}
 use borrow.Author.Tests.{eqb-false}
 use Rattle.sheets.specs.declared.State.{State}
 use Rattle.sheets.specs.declared.Scanned.{Scanned}
-use Rattle.sheets.specs.declared.Next.TheVariants as Next
+use Rattle.sheets.specs.declared.Fault.TheVariants.{Malformed, TooLong}
+use Rattle.std.specs.Prelude.{Ok, Err, Some, None}
 use Rattle.sheets.specs.declared.Line.{Line}
 use Rattle.sheets.specs.declared.Line.TheVariants.{Count, Told}
 use Rattle.sheets.specs.Grammar.{all_sections, line_end}
@@ -22,11 +23,8 @@ use Rattle.sheets.specs.Lines.{ended}
 use Rattle.sheets.proofs.Splits.{Endless, Ended, Unended, split, whole_line_of_text, take_line}
 use Rattle.readings.specs.Readers.{most_bytes}
 use Rattle.parts.specs.declared.Standing.{Standing}
-use Rattle.parts.specs.declared.Reader.{Reader}
-use Rattle.parts.specs.declared.Reader.TheVariants.{Open, Malformed, TooLong}
-use Rattle.parts.specs.declared.Brought.TheVariants as Brought
+use Rattle.parts.specs.Bytes.{Reader, Outcome, total, quiet, behind_line, takes_byte, taking}
 use Rattle.parts.specs.declared.Taken.{Taken}
-use Rattle.parts.specs.Bytes.{Outcome, total, quiet, behind_line, takes_byte, taking}
 use Rattle.parts.specs.Inside.{brought_of, states_of, told, Goes}
 use Rattle.parts.proofs.Bytes.{behind_quiet, Stays, met_stays, one_byte, quiet_but_last}
 use Rattle.parts.proofs.Texts.{Wants, room, spare, grown, passes_most, is_end, stops, text_held, text_too_many, text_too_long}
@@ -84,12 +82,11 @@ stretch rest some = ended_or_not (split rest)
 -- a line that has ended brings one state at most
 one_at_most : (line : Line) (state_lines : ℕ) → states_of (brought_of (behind_line line state_lines).states) ≡ (behind_line line state_lines).states
 one_at_most (Count after) state_lines = refl
-one_at_most (Told (Next.State state after)) state_lines = refl
-one_at_most (Told (Next.Malformed place)) state_lines = refl
-one_at_most (Told Next.Over) state_lines = refl
-one_at_most (Told Next.TooLong) state_lines = refl
+one_at_most (Told (Ok (Some told))) state_lines = refl
+one_at_most (Told (Ok None)) state_lines = refl
+one_at_most (Told (Err fault)) state_lines = refl
 
-first_stops : (standing : Standing) (fault : Reader) → Stays fault → ((byte : ℕ) → takes_byte (Open standing) byte ≡ quiet fault) → (bytes : List ℕ) → 0 < length bytes → taking (Open standing) bytes ≡ quiet fault
+first_stops : (standing : Standing) (fault : Reader) → Stays fault → ((byte : ℕ) → takes_byte (Ok standing) byte ≡ quiet fault) → (bytes : List ℕ) → 0 < length bytes → taking (Ok standing) bytes ≡ quiet fault
 first_stops standing fault is_fault each [] some = absurd (omega arith)
 first_stops standing fault is_fault each (byte ∷ bytes) some = stops standing byte bytes fault is_fault (each byte)
 
@@ -113,37 +110,37 @@ module _ (standing : Standing) (part : List ℕ) (from : ℕ) (inside_part : fro
   is_digest = ap (λ (scanned : Scanned). scanned.digest) is_scan
 
   -- where nothing is brought
-  goes_quiet : (after : Reader) → taking (Open standing) (text ++ taken_of.behind) ≡ quiet after → Goes standing rest from (record { reader = after; brought = Brought.Nothing; taken = line.next })
+  goes_quiet : (after : Reader) → taking (Ok standing) (text ++ taken_of.behind) ≡ quiet after → Goes standing rest from (record { reader = after; brought = None; taken = line.next })
   goes_quiet after is =
-      let all = ap (taking (Open standing)) taken_of.is_taken ∙ is in
+      let all = ap (taking (Ok standing)) taken_of.is_taken ∙ is in
       record {
         before = taken_of.before;
         is_taken = omega (arith, is_next, taken_of.is_whole);
         inside = taken_of.inside;
-        none_before = quiet_but_last (Open standing) taken_of.before rest (ap (λ (o : Outcome). o.states) all);
+        none_before = quiet_but_last (Ok standing) taken_of.before rest (ap (λ (o : Outcome). o.states) all);
         brings = all;
       }
 
   -- a fault that the first byte meets, or the text
-  pub stops_at_first : (fault : Reader) → Stays fault → ((byte : ℕ) → takes_byte (Open standing) byte ≡ quiet fault) → Goes standing rest from (record { reader = fault; brought = Brought.Nothing; taken = line.next })
+  pub stops_at_first : (fault : Reader) → Stays fault → ((byte : ℕ) → takes_byte (Ok standing) byte ≡ quiet fault) → Goes standing rest from (record { reader = fault; brought = None; taken = line.next })
   stops_at_first fault is_fault each =
       goes_quiet fault
       (first_stops standing fault is_fault each (text ++ taken_of.behind)
       (omega (arith, length-take-le (suc taken_of.before) rest taken_of.inside, ap length taken_of.is_taken)))
 
-  stops_in_text : (fault : Reader) → Stays fault → taking (Open standing) text ≡ quiet fault → Goes standing rest from (record { reader = fault; brought = Brought.Nothing; taken = line.next })
-  stops_in_text fault is_fault is = goes_quiet fault (met_stays (Open standing) text taken_of.behind is_fault is)
+  stops_in_text : (fault : Reader) → Stays fault → taking (Ok standing) text ≡ quiet fault → Goes standing rest from (record { reader = fault; brought = None; taken = line.next })
+  stops_in_text fault is_fault is = goes_quiet fault (met_stays (Ok standing) text taken_of.behind is_fault is)
 
   module _ (wants : Wants standing) where
-    pub too_many : spare standing < line.end - from → spare standing < room standing → Goes standing rest from (record { reader = Malformed standing.cursor.place; brought = Brought.Nothing; taken = line.next })
+    pub too_many : spare standing < line.end - from → spare standing < room standing → Goes standing rest from (record { reader = Err (Malformed standing.cursor.place); brought = None; taken = line.next })
     too_many many short =
-        stops_in_text (Malformed standing.cursor.place) tt (text_too_many standing text (endless_line rest) wants (omega (arith, text_long)) (omega arith))
+        stops_in_text (Err (Malformed standing.cursor.place)) tt (text_too_many standing text (endless_line rest) wants (omega (arith, text_long)) (omega arith))
 
-    pub too_long : room standing < line.end - from → room standing ≤ spare standing → Goes standing rest from (record { reader = TooLong; brought = Brought.Nothing; taken = line.next })
-    too_long long first = stops_in_text TooLong tt (text_too_long standing text (endless_line rest) wants (omega (arith, text_long)) (omega arith))
+    pub too_long : room standing < line.end - from → room standing ≤ spare standing → Goes standing rest from (record { reader = Err TooLong; brought = None; taken = line.next })
+    too_long long first = stops_in_text (Err TooLong) tt (text_too_long standing text (endless_line rest) wants (omega (arith, text_long)) (omega arith))
 
     module _ (below : total standing < most_bytes) (few : line.end - from ≤ spare standing) (short : line.end - from ≤ room standing) where
-      all_held : taking (Open standing) text ≡ quiet (Open (grown standing text))
+      all_held : taking (Ok standing) text ≡ quiet (Ok (grown standing text))
       all_held = text_held standing text (endless_line rest) wants (omega (arith, text_long)) (omega (arith, text_long))
 
       abbrev with_text : Standing
@@ -152,28 +149,28 @@ module _ (standing : Standing) (part : List ℕ) (from : ℕ) (inside_part : fro
       same_standing : grown standing text ≡ with_text
       same_standing = let long : length text ≡ line.end - from = omega (arith, text_long) in cc (is_digest, long)
 
-      held : taking (Open standing) text ≡ quiet (Open with_text)
-      held = all_held ∙ ap (λ (s : Standing). quiet (Open s)) same_standing
+      held : taking (Ok standing) text ≡ quiet (Ok with_text)
+      held = all_held ∙ ap (λ (s : Standing). quiet (Ok s)) same_standing
 
-      pub holds_all : line.next ≡ line.end → Goes standing rest from (record { reader = Open with_text; brought = Brought.Nothing; taken = line.next })
+      pub holds_all : line.next ≡ line.end → Goes standing rest from (record { reader = Ok with_text; brought = None; taken = line.next })
       holds_all no_more =
-          goes_quiet (Open with_text)
-          (ap (λ (l : List ℕ). taking (Open standing) (text ++ l)) (taken_of.no_end (omega (arith, is_next, text_long)))
-          ∙ ap (taking (Open standing)) (append-nil text)
+          goes_quiet (Ok with_text)
+          (ap (λ (l : List ℕ). taking (Ok standing) (text ++ l)) (taken_of.no_end (omega (arith, is_next, text_long)))
+          ∙ ap (taking (Ok standing)) (append-nil text)
           ∙ held)
 
       module _ (more : line.next ≡ line.end → ⊥) where
         with_end : taken_of.behind ≡ line_end ∷ []
         with_end = taken_of.some_end (λ same. more (omega (arith, is_next, text_long)))
 
-        then_end : taking (Open standing) (text ++ taken_of.behind) ≡ takes_byte (Open with_text) line_end
+        then_end : taking (Ok standing) (text ++ taken_of.behind) ≡ takes_byte (Ok with_text) line_end
         then_end =
-            ap (λ (l : List ℕ). taking (Open standing) (text ++ l)) with_end
-            ∙ behind_quiet (Open standing) text (line_end ∷ []) held
-            ∙ one_byte (Open with_text) line_end
+            ap (λ (l : List ℕ). taking (Ok standing) (text ++ l)) with_end
+            ∙ behind_quiet (Ok standing) text (line_end ∷ []) held
+            ∙ one_byte (Ok with_text) line_end
 
-        pub end_too_long : room standing ≤ line.end - from → Goes standing rest from (record { reader = TooLong; brought = Brought.Nothing; taken = line.next })
-        end_too_long full = goes_quiet TooLong (then_end ∙ passes_most with_text line_end (omega arith))
+        pub end_too_long : room standing ≤ line.end - from → Goes standing rest from (record { reader = Err TooLong; brought = None; taken = line.next })
+        end_too_long full = goes_quiet (Err TooLong) (then_end ∙ passes_most with_text line_end (omega arith))
 
         abbrev met : Line
         met = ended all_sections standing.cursor (standing.cursor.place + standing.held + (line.end - from) + 1) line.digest
@@ -192,11 +189,11 @@ module _ (standing : Standing) (part : List ℕ) (from : ℕ) (inside_part : fro
               is_taken = omega (arith, is_next, taken_of.is_whole);
               inside = taken_of.inside;
               none_before =
-                  ap (λ (n : ℕ). (taking (Open standing) (take n rest)).states) before
-                  ∙ ap (λ (l : List ℕ). (taking (Open standing) l).states) (take_line rest)
+                  ap (λ (n : ℕ). (taking (Ok standing) (take n rest)).states) before
+                  ∙ ap (λ (l : List ℕ). (taking (Ok standing) l).states) (take_line rest)
                   ∙ ap (λ (o : Outcome). o.states) held;
               brings =
-                  ap (taking (Open standing)) taken_of.is_taken
+                  ap (taking (Ok standing)) taken_of.is_taken
                   ∙ then_end
                   ∙ is
                   ∙ ap (λ (l : List State). record { after = (behind_line met standing.state_lines).after; states = l }) (sym (one_at_most met standing.state_lines));

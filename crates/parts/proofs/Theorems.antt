@@ -7,24 +7,19 @@ use Prim.Native.Nat.{ℕ, ◌≤◌, ◌<◌}
 use native.Mathlib.Nat.{zero-add}
 use lib.ListN.{length}
 use Rattle.sheets.specs.declared.State.{State}
-use Rattle.sheets.specs.declared.Next.{Next}
-use Rattle.sheets.specs.declared.Next.TheVariants as Next
+use Rattle.sheets.specs.Reading.{Next, start, Reads}
+use Rattle.sheets.specs.declared.Fault.TheVariants.{Malformed, TooLong}
+use Rattle.std.specs.Prelude.{Ok, Err, Some, None}
 use Rattle.sheets.specs.Grammar.{all_sections, Pair, Good, states_from}
-use Rattle.sheets.specs.Reading.{start, Reads}
 use Rattle.sheets.proofs.Walks.{Ends, reads_determined, reads_never_too_long}
 use Rattle.sheets.proofs.Written.{read_good, states_counted}
 use Rattle.sheets.proofs.Readable.{good_read}
-use Rattle.readings.specs.declared.Reading.{Reading}
-use Rattle.readings.specs.declared.Reading.TheVariants as Reading
-use Rattle.readings.specs.Figures.{sheet_figures}
+use Rattle.readings.specs.Figures.{Reading, sheet_figures}
 use Rattle.readings.specs.Readers.{most_bytes}
 use Rattle.readings.specs.Replies.{ReadsAs}
 use Rattle.readings.proofs.Answers.{good_told, fault_told}
-use Rattle.parts.specs.declared.Reader.{Reader}
-use Rattle.parts.specs.declared.Reader.TheVariants.{Malformed, TooLong}
-use Rattle.parts.specs.declared.Brought.TheVariants as Brought
+use Rattle.parts.specs.Bytes.{Reader, Outcome, at_start, taking}
 use Rattle.parts.specs.declared.Taken.{Taken}
-use Rattle.parts.specs.Bytes.{Outcome, at_start, taking}
 use Rattle.parts.specs.Takes.{Takes, number_of_reader, number_of, over}
 use Rattle.parts.specs.Served.{Served, ServedAll, joined}
 use Rattle.parts.proofs.Bytes.{Stays, stays}
@@ -61,16 +56,16 @@ module _ (bytes : List ℕ) (fits : length bytes ≤ most_bytes) where
       states = (taking at_start bytes).states
 
       by_end : (last : Next) → Ends last → Reads all_sections bytes start states last → ReadsAs bytes (sheet_figures (saying (length states) last))
-      by_end (Next.State state after) ends reads = absurd ends
-      by_end Next.Over ends reads =
+      by_end (Ok (Some line)) ends reads = absurd ends
+      by_end (Ok None) ends reads =
           let written = read_good bytes states reads in
           rw (ap length written.are_states ∙ states_counted 0 written.lists) (good_told bytes written.lists fits written.good)
-      by_end (Next.Malformed place) ends reads = fault_told bytes place fits (record { before = states; reads = reads })
-      by_end Next.TooLong ends reads = absurd (reads_never_too_long all_sections bytes start states reads)
+      by_end (Err (Malformed place)) ends reads = fault_told bytes place fits (record { before = states; reads = reads })
+      by_end (Err TooLong) ends reads = absurd (reads_never_too_long all_sections bytes start states reads)
 
   answered_as_written : (lists : List (List Pair)) → Good all_sections bytes lists → (taking at_start bytes).states ≡ states_from 0 lists
   answered_as_written lists good =
-      (reads_determined all_sections bytes start (taking at_start bytes).states (states_from 0 lists) read_on.last Next.Over read_on.ends tt read_on.reads (good_read all_sections bytes lists good)).same_states
+      (reads_determined all_sections bytes start (taking at_start bytes).states (states_from 0 lists) read_on.last (Ok None) read_on.ends tt read_on.reads (good_read all_sections bytes lists good)).same_states
 
 pub record AsWhole (bytes : List ℕ) (states : List State) (after : Reader) : Type 0 where
   pub said : ReadsAs bytes (sheet_figures (over after))
@@ -85,19 +80,19 @@ parts_as_whole parts states after fits served =
     }
 
 -- For more bytes it is 7, which has no place, or the 6 that was met within as many as a sheet may have.
-pub longer_is_seven : (parts : List (List ℕ)) (states : List State) (after : Reader) → most_bytes < length (joined parts) → ServedAll at_start parts states after → (over after ≡ Reading.TooLong) ⊎ MetBefore (joined parts) after
+pub longer_is_seven : (parts : List (List ℕ)) (states : List State) (after : Reader) → most_bytes < length (joined parts) → ServedAll at_start parts states after → (over after ≡ Err TooLong) ⊎ MetBefore (joined parts) after
 longer_is_seven parts states after long served =
     let is : (taking at_start (joined parts)).after ≡ after = ap (λ (o : Outcome). o.after) (all_served_is at_start parts states after served) in
-    subst (λ (r : Reader). (over r ≡ Reading.TooLong) ⊎ MetBefore (joined parts) r) is (either (longer (joined parts) long))
+    subst (λ (r : Reader). (over r ≡ Err TooLong) ⊎ MetBefore (joined parts) r) is (either (longer (joined parts) long))
   where
-    either : ((taking at_start (joined parts)).after ≡ TooLong) ⊎ MetBefore (joined parts) (taking at_start (joined parts)).after → (over (taking at_start (joined parts)).after ≡ Reading.TooLong) ⊎ MetBefore (joined parts) (taking at_start (joined parts)).after
+    either : ((taking at_start (joined parts)).after ≡ Err TooLong) ⊎ MetBefore (joined parts) (taking at_start (joined parts)).after → (over (taking at_start (joined parts)).after ≡ Err TooLong) ⊎ MetBefore (joined parts) (taking at_start (joined parts)).after
     either (inl seven) = inl (ap over seven)
     either (inr before) = inr before
 
 -- Behind a fault nothing changes, and every part is used up.
-pub after_a_fault_nothing : (reader : Reader) → Stays reader → (part : List ℕ) (reply : Taken) → Takes reader part reply → reply ≡ record { reader = reader; brought = Brought.Nothing; taken = length part }
+pub after_a_fault_nothing : (reader : Reader) → Stays reader → (part : List ℕ) (reply : Taken) → Takes reader part reply → reply ≡ record { reader = reader; brought = None; taken = length part }
 after_a_fault_nothing reader fault part reply takes =
-    take_determined reader part reply (record { reader = reader; brought = Brought.Nothing; taken = length part }) takes (record { is_taken = refl; brings = stays reader fault part })
+    take_determined reader part reply (record { reader = reader; brought = None; taken = length part }) takes (record { is_taken = refl; brings = stays reader fault part })
 
 pub start_determined : (reader reader' : Reader) → reader ≡ at_start → reader' ≡ at_start → reader ≡ reader'
 start_determined reader reader' is is' = is ∙ sym is'

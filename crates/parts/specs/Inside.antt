@@ -1,21 +1,18 @@
 -- What private functions promise. Nothing public is stated by this file.
-use Rattle.std.specs.Prelude.{◌≡◌, List, [], ◌∷◌, ℕ, suc, ◌+◌, ◌≤◌, length, take}
+use Rattle.std.specs.Prelude.{◌≡◌, List, [], ◌∷◌, ℕ, suc, ◌+◌, ◌≤◌, length, take, Ok, Option, Some, None}
 use Rattle.sheets.specs.declared.State.{State}
 use Rattle.sheets.specs.declared.Line.{Line}
 use Rattle.parts.specs.declared.Standing.{Standing}
-use Rattle.parts.specs.declared.Reader.TheVariants.{Open}
-use Rattle.parts.specs.declared.Brought.{Brought}
-use Rattle.parts.specs.declared.Brought.TheVariants as Brought
 use Rattle.parts.specs.declared.Taken.{Taken}
 use Rattle.parts.specs.Bytes.{Outcome, taking, behind_line}
 
-abbrev pub brought_of : List State → Brought
-brought_of [] = Brought.Nothing
-brought_of (state ∷ states) = Brought.State state
+abbrev pub brought_of : List State → Option State
+brought_of [] = None
+brought_of (state ∷ states) = Some state
 
-abbrev pub states_of : Brought → List State
-states_of (Brought.State state) = state ∷ []
-states_of Brought.Nothing = []
+abbrev pub states_of : Option State → List State
+states_of (Some state) = state ∷ []
+states_of None = []
 
 abbrev pub told : Outcome → (taken : ℕ) → Taken
 told outcome taken = record { reader = outcome.after; brought = brought_of outcome.states; taken = taken }
@@ -28,5 +25,5 @@ pub record Goes (standing : Standing) (rest : List ℕ) (from : ℕ) (reply : Ta
   pub before : ℕ
   pub is_taken : reply.taken ≡ from + suc before
   pub inside : suc before ≤ length rest
-  pub none_before : (taking (Open standing) (take before rest)).states ≡ []
-  pub brings : taking (Open standing) (take (suc before) rest) ≡ record { after = reply.reader; states = states_of reply.brought }
+  pub none_before : (taking (Ok standing) (take before rest)).states ≡ []
+  pub brings : taking (Ok standing) (take (suc before) rest) ≡ record { after = reply.reader; states = states_of reply.brought }

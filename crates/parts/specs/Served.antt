@@ -1,7 +1,7 @@
 -- docs/RULES.md, "A sheet in parts": what a caller gets who goes on with the rest of a part wherever a state line ended, and then with the next part.
 use Rattle.std.specs.Prelude.{◌≡◌, List, [], ◌∷◌, ◌++◌, ℕ, length, drop}
 use Rattle.sheets.specs.declared.State.{State}
-use Rattle.parts.specs.declared.Reader.{Reader}
+use Rattle.parts.specs.Bytes.{Reader}
 use Rattle.parts.specs.Takes.{EndsState, UsesUp}
 
 -- one part: a call for each state line that ends in it, and one that uses it up

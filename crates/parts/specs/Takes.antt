@@ -1,17 +1,13 @@
 -- docs/RULES.md, "A sheet in parts": what a call tells of a part, and what is said of a sheet that is over, for any reader at all.
-use Rattle.std.specs.Prelude.{◌≡◌, cond, List, [], ◌∷◌, ℕ, suc, ◌≤◌, eqb, length, take}
+use Rattle.std.specs.Prelude.{◌≡◌, cond, List, [], ◌∷◌, ℕ, suc, ◌≤◌, eqb, length, take, Ok, Err, Option, Some, None}
 use Rattle.sheets.specs.declared.State.{State}
 use Rattle.sheets.specs.Grammar.{all_sections}
 use Rattle.sheets.specs.Lines.{wants_line}
-use Rattle.readings.specs.declared.Reading.{Reading}
-use Rattle.readings.specs.declared.Reading.TheVariants as Reading
+use Rattle.readings.specs.Figures.{Reading}
+use Rattle.sheets.specs.declared.Fault.TheVariants.{Malformed, TooLong}
 use Rattle.parts.specs.declared.Standing.{Standing}
-use Rattle.parts.specs.declared.Reader.{Reader}
-use Rattle.parts.specs.declared.Reader.TheVariants.{Open, Malformed, TooLong}
-use Rattle.parts.specs.declared.Brought.{Brought}
-use Rattle.parts.specs.declared.Brought.TheVariants as Brought
+use Rattle.parts.specs.Bytes.{Reader, taking, quiet}
 use Rattle.parts.specs.declared.Taken.{Taken}
-use Rattle.parts.specs.Bytes.{taking, quiet}
 
 -- the bytes taken bring this state, and with the last of them
 pub record EndsState (reader : Reader) (part : List ℕ) (state : State) (taken : ℕ) (after : Reader) : Type 0 where
@@ -26,31 +22,30 @@ pub record UsesUp (reader : Reader) (part : List ℕ) (taken : ℕ) (after : Rea
   pub is_taken : taken ≡ length part
   pub brings : taking reader part ≡ quiet after
 
-abbrev pub TakesAs : (reader : Reader) (part : List ℕ) → Brought → (taken : ℕ) (after : Reader) → Type 0
-TakesAs reader part (Brought.State state) taken after = EndsState reader part state taken after
-TakesAs reader part Brought.Nothing taken after = UsesUp reader part taken after
+abbrev pub TakesAs : (reader : Reader) (part : List ℕ) → Option State → (taken : ℕ) (after : Reader) → Type 0
+TakesAs reader part (Some state) taken after = EndsState reader part state taken after
+TakesAs reader part None taken after = UsesUp reader part taken after
 
 abbrev pub Takes : (reader : Reader) (part : List ℕ) → Taken → Type 0
 Takes reader part reply = TakesAs reader part reply.brought reply.taken reply.reader
 
 -- the number of what is told
 abbrev pub number_of_reader : Reader → ℕ
-number_of_reader (Open standing) = 16
-number_of_reader (Malformed place) = 6
-number_of_reader TooLong = 7
+number_of_reader (Ok standing) = 16
+number_of_reader (Err (Malformed place)) = 6
+number_of_reader (Err TooLong) = 7
 
-abbrev pub number_of : Brought → (after : Reader) → ℕ
-number_of (Brought.State state) after = 0
-number_of Brought.Nothing after = number_of_reader after
+abbrev pub number_of : Option State → (after : Reader) → ℕ
+number_of (Some state) after = 0
+number_of None after = number_of_reader after
 
 -- a line that is missing, or that lacks its end
 abbrev pub over_at : Standing → Reading
 over_at standing =
     cond (eqb standing.held 0)
-    (cond (wants_line all_sections standing.cursor) (Reading.Malformed standing.cursor.place) (Reading.StateLines standing.state_lines))
-    (Reading.Malformed standing.cursor.place)
+    (cond (wants_line all_sections standing.cursor) (Err (Malformed standing.cursor.place)) (Ok standing.state_lines))
+    (Err (Malformed standing.cursor.place))
 
 abbrev pub over : Reader → Reading
-over (Open standing) = over_at standing
-over (Malformed place) = Reading.Malformed place
-over TooLong = Reading.TooLong
+over (Ok standing) = over_at standing
+over (Err fault) = Err fault

@@ -3,11 +3,11 @@ ghost use Rattle.std.specs.Prelude.{◌≡◌, ◌-◌, ◌<◌, length, drop};
 ghost use Rattle.parts.specs.Bytes.{longest_line, quiet, opened, another};
 ghost use Rattle.parts.specs.Inside.{told, behind_of, Goes};
 
-use crate::{Brought, Reader, Standing, Taken};
+use crate::{Reader, Standing, Taken};
 use digests::scan;
 use lines::{ended_line, wants_line};
 use readings::MOST_BYTES;
-use sheets::{Cursor, Digest, Line, Next};
+use sheets::{Cursor, Digest, Fault, Line};
 
 // No good line has more bytes before its end: two numbers of ten digits, and the space between them.
 const LONGEST_LINE: usize = 21;
@@ -18,7 +18,7 @@ pub(crate) fn nothing(reader: Reader, taken: usize) -> Taken
 {
     Taken {
         reader,
-        brought: Brought::Nothing,
+        brought: None,
         taken,
     }
 }
@@ -27,7 +27,7 @@ pub(crate) fn nothing(reader: Reader, taken: usize) -> Taken
 pub(crate) fn opened(cursor: Cursor, state_lines: u64) -> Reader
     ensures { result ≡ opened cursor state_lines }
 {
-    Reader::Open(Standing {
+    Ok(Standing {
         cursor,
         digest: Digest::Empty,
         held: 0,
@@ -46,32 +46,19 @@ fn another(state_lines: u64) -> u64
     state_lines + 1
 }
 
-// How many bytes more may belong to a good line of which so many are held.
-fn spare(held: usize) -> usize
-    ensures { result ≡ longest_line - held }
-{
-    if LONGEST_LINE <= held {
-        return 0;
-    }
-    LONGEST_LINE - held
-}
-
 // Behind a line that has ended. Such a line is never told as the end of the sheet or as too long.
 fn behind(line: Line, state_lines: u64, taken: usize) -> Taken
     ensures { result ≡ behind_of line state_lines taken }
 {
     match line {
         Line::Count(after) => nothing(opened(after, state_lines), taken),
-        Line::Told(next) => match next {
-            Next::State { state, after } => Taken {
-                reader: opened(after, another(state_lines)),
-                brought: Brought::State(state),
-                taken,
-            },
-            Next::Malformed { place } => nothing(Reader::Malformed { place }, taken),
-            Next::Over => nothing(Reader::TooLong, taken),
-            Next::TooLong => nothing(Reader::TooLong, taken),
+        Line::Told(Ok(Some(line))) => Taken {
+            reader: opened(line.after, another(state_lines)),
+            brought: Some(line.state),
+            taken,
         },
+        Line::Told(Ok(None)) => nothing(Err(Fault::TooLong), taken),
+        Line::Told(Err(fault)) => nothing(Err(fault), taken),
     }
 }
 
@@ -91,24 +78,25 @@ pub(crate) fn go_on(standing: Standing, part: &[u8], from: usize) -> Taken
     let next = line.next;
     let text = end - from;
     if MOST_BYTES <= place {
-        return nothing(Reader::TooLong, next);
+        return nothing(Err(Fault::TooLong), next);
     }
     if MOST_BYTES - place <= held {
-        return nothing(Reader::TooLong, next);
+        return nothing(Err(Fault::TooLong), next);
     }
     if !wants_line(cursor) {
-        return nothing(Reader::Malformed { place }, next);
+        return nothing(Err(Fault::Malformed { place }), next);
     }
     let room = MOST_BYTES - place - held;
-    let spare = spare(held);
+    // how many bytes more may belong to a good line
+    let spare = LONGEST_LINE.saturating_sub(held);
     if spare < text {
         if spare < room {
-            let fault = Reader::Malformed { place };
-            return nothing(fault, next);
+            let fault = Fault::Malformed { place };
+            return nothing(Err(fault), next);
         }
     }
     if room < text {
-        return nothing(Reader::TooLong, next);
+        return nothing(Err(Fault::TooLong), next);
     }
     if next == end {
         let held = held + text;
@@ -118,10 +106,10 @@ pub(crate) fn go_on(standing: Standing, part: &[u8], from: usize) -> Taken
             held,
             state_lines,
         };
-        return nothing(Reader::Open(longer), next);
+        return nothing(Ok(longer), next);
     }
     if room <= text {
-        return nothing(Reader::TooLong, next);
+        return nothing(Err(Fault::TooLong), next);
     }
     let met = ended_line(cursor, place + held + text + 1, digest);
     behind(met, state_lines, next)

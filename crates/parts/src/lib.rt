@@ -12,7 +12,7 @@ ghost use Rattle.parts.specs.Takes.{Takes, number_of_reader, number_of, over};
 use crate::going::{go_on, nothing, opened};
 use lines::wants_line;
 use readings::Reading;
-use sheets::{Cursor, Digest, State};
+use sheets::{Cursor, Digest, Fault, State};
 
 // Where no fault was met so far: where the line begins that is not over yet, what its bytes come to, how many
 // of them are held, and how many state lines ended before it.
@@ -25,38 +25,25 @@ pub struct Standing {
 }
 
 // What is kept of a sheet between two of its parts.
-#[derive(Clone, Copy)]
-pub enum Reader {
-    Open(Standing),
-    Malformed { place: usize },
-    TooLong,
-}
+pub type Reader = Result<Standing, Fault>;
 
-// What bytes bring: the state line that ended with the last of them, or none.
-#[derive(Clone, Copy)]
-pub enum Brought {
-    State(State),
-    Nothing,
-}
-
-// How many bytes of a part were taken, what they brought, and the reader behind them.
+// How many bytes of a part were taken, the state line that ended with the last of them, if one did, and the reader
+// behind them.
 #[derive(Clone, Copy)]
 pub struct Taken {
     pub reader: Reader,
-    pub brought: Brought,
+    pub brought: Option<State>,
     pub taken: usize,
 }
 
-impl Reader {
-    // The number of a part that is used up: 16 where no fault was met so far, and a fault's own.
-    pub fn number(self) -> u64
-        ensures { result ≡ number_of_reader self }
-    {
-        match self {
-            Reader::Open(_) => 16,
-            Reader::Malformed { place: _ } => 6,
-            Reader::TooLong => 7,
-        }
+// The number of a part that is used up: 16 where no fault was met so far, and a fault's own.
+pub fn number(reader: Reader) -> u64
+    ensures { result ≡ number_of_reader reader }
+{
+    match reader {
+        Ok(_) => 16,
+        Err(Fault::Malformed { place: _ }) => 6,
+        Err(Fault::TooLong) => 7,
     }
 }
 
@@ -65,11 +52,9 @@ impl Taken {
     pub fn number(self) -> u64
         ensures { result ≡ number_of self.brought self.reader }
     {
-        let brought = self.brought;
-        let reader = self.reader;
-        match brought {
-            Brought::State(_) => 0,
-            Brought::Nothing => reader.number(),
+        match self.brought {
+            Some(_) => 0,
+            None => number(self.reader),
         }
     }
 }
@@ -94,28 +79,17 @@ pub fn take(reader: Reader, part: &[u8]) -> Taken
 {
     let mut now = reader;
     let mut from = 0;
+    // The rest of a line is taken at once, so no `for` goes from byte to byte.
     while from < part.len() {
-        match now {
-            Reader::Open(standing) => {
-                let gone = go_on(standing, part, from);
-                let brought = gone.brought;
-                match brought {
-                    Brought::State(_) => {
-                        return gone;
-                    }
-                    Brought::Nothing => {
-                        now = gone.reader;
-                        from = gone.taken;
-                    }
-                }
-            }
-            Reader::Malformed { place } => {
-                return nothing(Reader::Malformed { place }, part.len());
-            }
-            Reader::TooLong => {
-                return nothing(Reader::TooLong, part.len());
-            }
+        let Ok(standing) = now else {
+            return nothing(now, part.len());
+        };
+        let gone = go_on(standing, part, from);
+        if gone.brought.is_some() {
+            return gone;
         }
+        now = gone.reader;
+        from = gone.taken;
     }
     nothing(now, from)
 }
@@ -124,21 +98,14 @@ pub fn take(reader: Reader, part: &[u8]) -> Taken
 pub fn end(reader: Reader) -> Reading
     ensures { result ≡ over reader }
 {
-    match reader {
-        Reader::Open(standing) => {
-            let cursor = standing.cursor;
-            let held = standing.held;
-            let state_lines = standing.state_lines;
-            let place = cursor.place;
-            if held != 0 {
-                return Reading::Malformed { place };
-            }
-            if wants_line(cursor) {
-                return Reading::Malformed { place };
-            }
-            Reading::StateLines(state_lines)
-        }
-        Reader::Malformed { place } => Reading::Malformed { place },
-        Reader::TooLong => Reading::TooLong,
+    let standing = reader?;
+    let cursor = standing.cursor;
+    let place = cursor.place;
+    if standing.held != 0 {
+        return Err(Fault::Malformed { place });
     }
+    if wants_line(cursor) {
+        return Err(Fault::Malformed { place });
+    }
+    Ok(standing.state_lines)
 }

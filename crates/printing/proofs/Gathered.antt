@@ -7,25 +7,24 @@ use lib.ListN.{length, take, length-append}
 use Rattle.io.specs.Counts.{IsPrefixLen}
 use Rattle.sheets.specs.declared.State.{State}
 use Rattle.sheets.specs.declared.Cursor.{Cursor}
-use Rattle.sheets.specs.declared.Next.{Next}
-use Rattle.sheets.specs.declared.Next.TheVariants as Next
-use Rattle.readings.specs.declared.Reading.{Reading}
-use Rattle.readings.specs.declared.Reading.TheVariants.{StateLines, Malformed, TooLong}
+use Rattle.sheets.specs.declared.Fault.{Fault}
+use Rattle.sheets.specs.declared.Fault.TheVariants.{Malformed, TooLong}
+use Rattle.std.specs.Prelude.{Ok, Err, Some, None}
 use Rattle.sheets.specs.Grammar.{all_sections, sum_of_counts}
 use Rattle.sheets.specs.Reading.{start, Comes}
-use Rattle.readings.specs.Readers as readers
+use Rattle.readings.specs.Figures.{sheet_figures}
+use Rattle.readings.specs.Replies.{ReadsAs}
 use Rattle.readings.proofs.Answers.{good_told, long_told, fault_told}
-use Rattle.readings.proofs.Nexts.{NextIn}
+use Rattle.readings.proofs.Nexts.{NextIn, CameAs}
 use Rattle.sheets.proofs.Passed.{Passed, none_passed, one_passed, all_passed}
 use Rattle.sheets.proofs.Written.{read_good}
 use Rattle.printing.specs.Prints.{LinesText, Prints}
 use Rattle.buffers.specs.Puts.{Puts}
 use Rattle.buffers.proofs.Holding.{put_with_room, after_long, up_to_end}
-use Rattle.texts.specs.declared.Text.{Text}
-use Rattle.texts.specs.Buffer.{longest_line, bytes_of, Written}
-use Rattle.wording.specs.Wording.{LineText, FaultText}
+use Rattle.texts.specs.Buffer.{longest_line, Written}
+use Rattle.wording.specs.Wording.{LineText}
 use Rattle.printing.specs.Buffer.{longest_text}
-use Rattle.printing.proofs.Alone.{text_short, counts, alone}
+use Rattle.printing.proofs.Counts.{counts}
 
 -- one line more
 lines_on : (states : List State) (state : State) (text line : List ℕ) → LinesText states text → LineText state line → LinesText (states ++ (state ∷ [])) (text ++ line)
@@ -54,34 +53,34 @@ module _ {bytes before : List ℕ} {cursor : Cursor} {buffer : List ℕ} {end : 
       let room = gathered.passed.room in
       omega (arith, gathered.short, gathered.same_length, room.states, room.begun)
 
-  module _ {state : State} {after : Cursor} (comes : Comes all_sections bytes cursor (Next.State state after)) where
+  module _ {state : State} {after : Cursor} (comes : Comes all_sections bytes cursor (Ok (Some (record { state = state; after = after })))) where
     on : Passed all_sections bytes after (gathered.states ++ (state ∷ []))
     on = one_passed bytes gathered.states state after gathered.passed comes
 
     -- the line that comes has room
-    pub gathers : {line : Text} {later : List ℕ} {next : ℕ} → Written (LineText state) line → Puts (bytes_of line) buffer end later next → Gathered bytes before after later next
+    pub gathers : {line later : List ℕ} {next : ℕ} → Written (LineText state) line → Puts line buffer end later next → Gathered bytes before after later next
     gathers {line} written puts =
         let room = on.room in
-        let short = text_short written.sized in
+        let short = written.short in
         let one_more = length-append gathered.states (state ∷ []) in
-        let fits : end + length (bytes_of line) ≤ length buffer = omega (arith, gathered.short, gathered.same_length, room.states, room.begun) in
+        let fits : end + length line ≤ length buffer = omega (arith, gathered.short, gathered.same_length, room.states, room.begun) in
         let holds = put_with_room puts fits in
         record {
           states = gathered.states ++ (state ∷ []);
           passed = on;
           are_lines =
               subst (LinesText (gathered.states ++ (state ∷ []))) (sym (up_to_end fits holds))
-              (lines_on gathered.states state (take end buffer) (bytes_of line) gathered.are_lines written.is_line);
+              (lines_on gathered.states state (take end buffer) line gathered.are_lines written.is_line);
           short = omega (arith, gathered.short, holds.reaches);
           same_length = after_long fits holds ∙ gathered.same_length;
         }
 
-  pub prints_all : NextIn all_sections bytes cursor Next.Over → IsPrefixLen end buffer × Prints bytes (take end buffer)
+  pub prints_all : NextIn all_sections bytes cursor (Ok None) → IsPrefixLen end buffer × Prints bytes (take end buffer)
   prints_all next =
-      let written = read_good bytes gathered.states (all_passed bytes gathered.states Next.Over gathered.passed next.comes) in (
+      let written = read_good bytes gathered.states (all_passed bytes gathered.states (Ok None) gathered.passed next.comes) in (
         counts buffer end within,
         record {
-          reading = StateLines (sum_of_counts written.lists);
+          reading = Ok (sum_of_counts written.lists);
           reads_as = good_told bytes written.lists next.fits written.good;
           is_text =
               record {
@@ -92,22 +91,8 @@ module _ {bytes before : List ℕ} {cursor : Cursor} {buffer : List ℕ} {end : 
         },
       )
 
-  module _ {line : Text} {later : List ℕ} {next : ℕ} (puts : Puts (bytes_of line) buffer 0 later next) where
-    -- a fault is put at the start of the buffer, over any lines
-    fault_alone : (reading : Reading) → Written (FaultText reading) line → IsPrefixLen next later × FaultText reading (take next later)
-    fault_alone reading written = alone (omega (arith, gathered.same_length)) written puts
-
-    pub prints_fault : (place : ℕ) → NextIn all_sections bytes cursor (Next.Malformed place) → Written (FaultText (Malformed place)) line → IsPrefixLen next later × Prints bytes (take next later)
-    prints_fault place next_in written =
-        let told = fault_alone (Malformed place) written in (
-          told.0,
-          record {
-            reading = Malformed place;
-            reads_as = fault_told bytes place next_in.fits (record { before = gathered.states; reads = all_passed bytes gathered.states (Next.Malformed place) gathered.passed next_in.comes });
-            is_text = told.1;
-          },
-        )
-
-    pub prints_too_long : readers.TooLong bytes → Written (FaultText TooLong) line → IsPrefixLen next later × Prints bytes (take next later)
-    prints_too_long long written =
-        let told = fault_alone TooLong written in (told.0, record { reading = TooLong; reads_as = long_told bytes long; is_text = told.1 })
+-- the sheet is refused for the fault that comes
+pub reads_fault : {bytes before : List ℕ} {cursor : Cursor} {buffer : List ℕ} {end : ℕ} → Gathered bytes before cursor buffer end → (fault : Fault) → CameAs all_sections bytes cursor (Err fault) → ReadsAs bytes (sheet_figures (Err fault))
+reads_fault {bytes} gathered (Malformed place) next =
+    fault_told bytes place next.fits (record { before = gathered.states; reads = all_passed bytes gathered.states (Err (Malformed place)) gathered.passed next.comes })
+reads_fault {bytes} gathered TooLong long = long_told bytes long

@@ -1,11 +1,9 @@
 -- docs/RULES.md, "What the programs print": what `sheet` prints for any bytes at all, a line for each state line, or for a refused sheet only its own.
-use Rattle.std.specs.Prelude.{◌≡◌, List, [], ◌∷◌, ◌++◌, ℕ}
+use Rattle.std.specs.Prelude.{◌≡◌, List, [], ◌∷◌, ◌++◌, ℕ, Ok, Err}
 use Rattle.sheets.specs.declared.State.{State}
-use Rattle.readings.specs.declared.Reading.{Reading}
-use Rattle.readings.specs.declared.Reading.TheVariants.{StateLines, Malformed, TooLong}
 use Rattle.sheets.specs.Grammar.{all_sections, Pair, Good, states_from}
 use Rattle.readings.specs.Replies.{ReadsAs}
-use Rattle.readings.specs.Figures.{sheet_figures}
+use Rattle.readings.specs.Figures.{Reading, sheet_figures}
 use Rattle.wording.specs.Wording.{LineText, FaultText}
 
 -- one line a state, in the order of the sheet
@@ -19,9 +17,8 @@ pub record AnswersText (bytes text : List ℕ) : Type 0 where
   pub are_lines : LinesText (states_from 0 lists) text
 
 abbrev pub ReadingText : (bytes : List ℕ) → Reading → (text : List ℕ) → Type 0
-ReadingText bytes (StateLines count) text = AnswersText bytes text
-ReadingText bytes (Malformed place) text = FaultText (Malformed place) text
-ReadingText bytes TooLong text = FaultText TooLong text
+ReadingText bytes (Ok count) text = AnswersText bytes text
+ReadingText bytes (Err fault) text = FaultText (Err fault) text
 
 pub record Prints (bytes text : List ℕ) : Type 0 where
   pub reading : Reading

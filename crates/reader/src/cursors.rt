@@ -7,7 +7,7 @@ ghost use Rattle.readings.specs.Replies.{NextIs};
 
 use lines::line_at;
 use readings::MOST_BYTES;
-use sheets::{Cursor, Line, Next};
+use sheets::{Cursor, Fault, Line, Next};
 
 // Where every walk begins.
 pub fn start() -> Cursor
@@ -25,7 +25,7 @@ pub fn next(sheet: &[u8], from: Cursor) -> Next
     ensures { NextIs sheet.now from (next_figures result) }
 {
     if MOST_BYTES < sheet.len() {
-        return Next::TooLong;
+        return Err(Fault::TooLong);
     }
     let mut cursor = from;
     loop {

@@ -7,7 +7,8 @@ use native.Mathlib.Omega.{arith}
 use lib.ListN.{length, replicate, length-replicate, length-append}
 use Rattle.sheets.specs.Grammar.{all_sections, most_states, digits, decimal, Pair, pair_text, line, state_lines, section, sheet, EachWritable, EachSection, Good, sum_of_counts}
 use Rattle.sheets.proofs.Written.{none_written}
-use Rattle.readings.specs.declared.Reading.TheVariants as Reading
+use Rattle.sheets.specs.declared.Fault.TheVariants.{TooLong}
+use Rattle.std.specs.Prelude.{Ok, Err}
 use Rattle.readings.specs.Figures.{sheet_answered, sheet_figures}
 use Rattle.readings.specs.Replies.{ReadsAs}
 use Rattle.readings.proofs.Answers.{good_told, long_told}
@@ -53,7 +54,7 @@ full_sheet_is_good =
 pub full_sheet_has_66015_bytes : length (sheet full_sheet) ≡ 66015
 full_sheet_has_66015_bytes = omega (arith, full_long (full ∷ full ∷ []), full_long (full ∷ []), full_long [], ap length none_written)
 
-pub full_sheet_is_refused_by_7 : ReadsAs (sheet full_sheet) (sheet_figures Reading.TooLong)
+pub full_sheet_is_refused_by_7 : ReadsAs (sheet full_sheet) (sheet_figures (Err TooLong))
 full_sheet_is_refused_by_7 = long_told (sheet full_sheet) (omega (arith, full_sheet_has_66015_bytes))
 
 -- one short line, `10 10`, and the longest
@@ -81,7 +82,7 @@ largest_sheet_is_good =
 pub largest_sheet_has_65536_bytes : length (sheet largest_sheet) ≡ 65536
 largest_sheet_has_65536_bytes = omega (arith, full_long (full ∷ last ∷ []), full_long (last ∷ []), last_long)
 
-pub largest_sheet_is_answered : ReadsAs (sheet largest_sheet) (sheet_figures (Reading.StateLines 2979))
+pub largest_sheet_is_answered : ReadsAs (sheet largest_sheet) (sheet_figures (Ok 2979))
 largest_sheet_is_answered =
     let count : sum_of_counts largest_sheet ≡ 2979 = omega (arith, length-replicate most_states longest, length-replicate 978 longest) in
     subst (λ (n : ℕ). ReadsAs (sheet largest_sheet) (sheet_answered n)) count (good_told (sheet largest_sheet) largest_sheet (omega (arith, largest_sheet_has_65536_bytes)) largest_sheet_is_good)

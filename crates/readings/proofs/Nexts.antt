@@ -8,9 +8,9 @@ use lib.ListN.{length}
 use Rattle.refusals.specs.Checks.{◌if◌, refuses, answers}
 use Rattle.refusals.proofs.Theorems.{tells_once}
 use Rattle.sheets.specs.declared.Cursor.{Cursor}
-use Rattle.sheets.specs.declared.Next.{Next}
-use Rattle.sheets.specs.declared.Next.TheVariants as Next
-use Rattle.sheets.specs.Reading.{Comes}
+use Rattle.sheets.specs.Reading.{Next, Comes}
+use Rattle.sheets.specs.declared.Fault.TheVariants as Fault
+use Rattle.std.specs.Prelude.{Ok, Err}
 use Rattle.sheets.proofs.Walks.{comes_determined, never_too_long}
 use Rattle.readings.specs.Figures.{NextFigures, next_refused, next_figures}
 use Rattle.readings.specs.Readers.{most_bytes, TooLong, Came, TellsNext}
@@ -23,27 +23,25 @@ pub record NextIn (sections : ℕ) (bytes : List ℕ) (cursor : Cursor) (next : 
 
 -- what each case of the answer is told for
 abbrev pub CameAs : (sections : ℕ) (bytes : List ℕ) (cursor : Cursor) → Next → Type 0
-CameAs sections bytes cursor (Next.State state after) = NextIn sections bytes cursor (Next.State state after)
-CameAs sections bytes cursor Next.Over = NextIn sections bytes cursor Next.Over
-CameAs sections bytes cursor (Next.Malformed place) = NextIn sections bytes cursor (Next.Malformed place)
-CameAs sections bytes cursor Next.TooLong = TooLong bytes
+CameAs sections bytes cursor (Ok told) = NextIn sections bytes cursor (Ok told)
+CameAs sections bytes cursor (Err (Fault.Malformed place)) = NextIn sections bytes cursor (Err (Fault.Malformed place))
+CameAs sections bytes cursor (Err Fault.TooLong) = TooLong bytes
 
 module _ {sections : ℕ} (bytes : List ℕ) (cursor : Cursor) where
-  pub long_next : TooLong bytes → TellsNext sections bytes cursor (next_figures Next.TooLong)
+  pub long_next : TooLong bytes → TellsNext sections bytes cursor (next_figures (Err Fault.TooLong))
   long_next long = refuses 7 (inl (long, refl)) refl
 
   pub told_next : (next : Next) → length bytes ≤ most_bytes → Comes sections bytes cursor next → TellsNext sections bytes cursor (next_figures next)
   told_next next fits comes = answers (not_long bytes fits, tt) (record { next = next; comes = comes; is_told = refl })
 
   as_came : (next : Next) → length bytes ≤ most_bytes → Comes sections bytes cursor next → CameAs sections bytes cursor next
-  as_came (Next.State state after) fits comes = record { fits = fits; comes = comes }
-  as_came Next.Over fits comes = record { fits = fits; comes = comes }
-  as_came (Next.Malformed place) fits comes = record { fits = fits; comes = comes }
-  as_came Next.TooLong fits comes = absurd (never_too_long bytes comes)
+  as_came (Ok told) fits comes = record { fits = fits; comes = comes }
+  as_came (Err (Fault.Malformed place)) fits comes = record { fits = fits; comes = comes }
+  as_came (Err Fault.TooLong) fits comes = absurd (never_too_long bytes comes)
 
   pub next_came : {told : Next} (next : Next) → told ≡ next → TellsNext sections bytes cursor (next_figures told) → CameAs sections bytes cursor next
   next_came {told} next same (refuses refusal (inl long) is_told) =
-      subst (CameAs sections bytes cursor) (same_next Next.TooLong told (sym (is_told ∙ ap (λ (n : ℕ). next_refused n 0) long.1)) ∙ same) long.0
+      subst (CameAs sections bytes cursor) (same_next (Err Fault.TooLong) told (sym (is_told ∙ ap (λ (n : ℕ). next_refused n 0) long.1)) ∙ same) long.0
   next_came {told} next same (refuses refusal (inr later) is_told) = absurd later.1
   next_came {told} next same (answers none came) =
       let short = none.0 in

@@ -8,11 +8,9 @@ use lib.Seq.{length-take-le}
 use Rattle.sheets.specs.Grammar.{all_sections, Pair, sheet, EachSection, Good}
 use Rattle.sheets.specs.Reading.{FaultAt}
 use Rattle.sheets.proofs.Readable.{fault_at_next_count, fault_at_end}
-use Rattle.readings.specs.declared.Reading.{Reading}
-use Rattle.readings.specs.declared.Reading.TheVariants as Reading
-use Rattle.readings.specs.declared.LineReading.{LineReading}
-use Rattle.readings.specs.declared.LineReading.TheVariants as LineReading
-use Rattle.readings.specs.Figures.{sheet_figures, line_figures}
+use Rattle.readings.specs.Figures.{Reading, LineReading, sheet_figures, line_figures}
+use Rattle.sheets.specs.declared.Fault.TheVariants.{Malformed}
+use Rattle.std.specs.Prelude.{Err}
 use Rattle.readings.specs.Readers.{most_bytes, TellsSheet, TellsLine}
 use Rattle.readings.proofs.Answers.{fault_told}
 use Rattle.readings.proofs.Theorems.{reading_determined, line_determined}
@@ -24,15 +22,15 @@ each_taken (suc count) (pairs ∷ lists) each = (each.0, each_taken count lists 
 
 -- readers of so many sections refuse by 6 at this place, the sheet and each of its lines
 pub record RefuseAt (wanted : ℕ) (bytes : List ℕ) (place : ℕ) : Type 0 where
-  pub whole : (reading : Reading) → TellsSheet wanted bytes (sheet_figures reading) → reading ≡ Reading.Malformed place
-  pub each_line : (k : ℕ) (reading : LineReading) → TellsLine wanted bytes k (line_figures reading) → reading ≡ LineReading.Malformed place
+  pub whole : (reading : Reading) → TellsSheet wanted bytes (sheet_figures reading) → reading ≡ Err (Malformed place)
+  pub each_line : (k : ℕ) (reading : LineReading) → TellsLine wanted bytes k (line_figures reading) → reading ≡ Err (Malformed place)
 
 module _ (bytes : List ℕ) (fits : length bytes ≤ most_bytes) (lists : List (List Pair)) where
   at_fault : {wanted place : ℕ} → FaultAt wanted bytes place → RefuseAt wanted bytes place
   at_fault {wanted} {place} fault =
       record {
-        whole = λ reading told. reading_determined bytes reading (Reading.Malformed place) told (fault_told bytes place fits fault);
-        each_line = λ k reading told. line_determined bytes k reading (LineReading.Malformed place) told (fault_told bytes place fits fault);
+        whole = λ reading told. reading_determined bytes reading (Err (Malformed place)) told (fault_told bytes place fits fault);
+        each_line = λ k reading told. line_determined bytes k reading (Err (Malformed place)) told (fault_told bytes place fits fault);
       }
 
   module _ (wanted written : ℕ) (good : Good written bytes lists) where

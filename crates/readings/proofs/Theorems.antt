@@ -10,18 +10,16 @@ use native.Mathlib.Decide.{dec_le}
 use lib.ListN.{length}
 use Rattle.refusals.specs.Checks.{refuses, answers}
 use Rattle.sheets.specs.declared.Cursor.{Cursor}
-use Rattle.sheets.specs.declared.Next.{Next}
+use Rattle.sheets.specs.Reading.{Next, FaultAt}
 use Rattle.sheets.specs.Grammar.{Pair, Good, states_from, sum_of_counts}
-use Rattle.sheets.specs.Reading.{FaultAt}
 use Rattle.sheets.proofs.Written.{states_counted}
 use Rattle.sheets.proofs.Faults.{good_has_no_fault, good_or_fault}
 use Rattle.sheets.proofs.Theorems.{written_once}
-use Rattle.readings.specs.declared.Reading.{Reading}
-use Rattle.readings.specs.declared.Reading.TheVariants as Reading
-use Rattle.readings.specs.declared.LineReading.{LineReading}
+use Rattle.readings.specs.Figures.{Reading, LineReading, sheet_refused, sheet_figures, line_refused, line_figures, next_figures}
+use Rattle.sheets.specs.declared.Fault.TheVariants.{Malformed, TooLong}
+use Rattle.std.specs.Prelude.{Ok, Err}
 use Rattle.readings.specs.declared.SheetFigures.{SheetFigures}
 use Rattle.readings.specs.declared.LineFigures.{LineFigures}
-use Rattle.readings.specs.Figures.{sheet_refused, sheet_figures, line_refused, line_figures, next_figures}
 use Rattle.readings.specs.Readers.{most_bytes, NoSheet, sheet_checks, line_checks, count_of, line_in, TellsSheet, TellsLine, TellsNext}
 use Rattle.readings.specs.Replies.{shown, ShowsBack}
 use Rattle.readings.proofs.Figures.{same_reading, same_line}
@@ -34,11 +32,11 @@ pub record Answered (sections : ℕ) (bytes : List ℕ) : Type 0 where
 
 pub record Refused (sections : ℕ) (bytes : List ℕ) : Type 0 where
   pub place : ℕ
-  pub reads_as : TellsSheet sections bytes (sheet_figures (Reading.Malformed place))
+  pub reads_as : TellsSheet sections bytes (sheet_figures (Err (Malformed place)))
 
 module _ {sections : ℕ} (bytes : List ℕ) where
   -- There are as many state lines as the counts say.
-  pub total_is_sum_of_counts : (lists : List (List Pair)) → Good sections bytes lists → (count : ℕ) → TellsSheet sections bytes (sheet_figures (Reading.StateLines count)) → (count ≡ sum_of_counts lists) × (count ≡ length (states_from 0 lists))
+  pub total_is_sum_of_counts : (lists : List (List Pair)) → Good sections bytes lists → (count : ℕ) → TellsSheet sections bytes (sheet_figures (Ok count)) → (count ≡ sum_of_counts lists) × (count ≡ length (states_from 0 lists))
   total_is_sum_of_counts lists good count (refuses refusal (inl long) told) =
       absurd (omega (arith, long.1, ap (λ (f : SheetFigures). f.number) told.is_told))
   total_is_sum_of_counts lists good count (refuses refusal (inr (short, inl none)) told) = absurd (none.0 lists good)
@@ -55,19 +53,19 @@ module _ {sections : ℕ} (bytes : List ℕ) where
     where
       short_or_long : Dec (length bytes ≤ most_bytes) → ((lists : List (List Pair)) × Good sections bytes lists) ⊎ ((place : ℕ) × FaultAt sections bytes place) → Answered sections bytes
       short_or_long (yes short) (inl (lists, good)) =
-          record { reading = Reading.StateLines (sum_of_counts lists); reads_as = good_told bytes lists short good }
-      short_or_long (yes short) (inr (place, fault)) = record { reading = Reading.Malformed place; reads_as = fault_told bytes place short fault }
-      short_or_long (no long) either = record { reading = Reading.TooLong; reads_as = long_told bytes (omega arith) }
+          record { reading = Ok (sum_of_counts lists); reads_as = good_told bytes lists short good }
+      short_or_long (yes short) (inr (place, fault)) = record { reading = Err (Malformed place); reads_as = fault_told bytes place short fault }
+      short_or_long (no long) either = record { reading = Err TooLong; reads_as = long_told bytes (omega arith) }
 
   -- 6 is given exactly where the bytes are no sheet, and are no more than allowed.
-  pub fault_found : (place : ℕ) → TellsSheet sections bytes (sheet_figures (Reading.Malformed place)) → FaultAt sections bytes place
+  pub fault_found : (place : ℕ) → TellsSheet sections bytes (sheet_figures (Err (Malformed place))) → FaultAt sections bytes place
   fault_found place (refuses refusal (inl long) told) = absurd (omega (arith, long.1, ap (λ (f : SheetFigures). f.number) told.is_told))
   fault_found place (refuses refusal (inr (short, inl none)) told) =
       subst (FaultAt sections bytes) (sym (ap (λ (f : SheetFigures). f.place) told.is_told)) (rw none.1 at told.is_place)
   fault_found place (refuses refusal (inr (short, inr never)) told) = absurd never.1
   fault_found place (answers none told) = absurd (omega (arith, ap (λ (f : SheetFigures). f.number) (some-injective _ _ told.is_told)))
 
-  pub refused_is_no_sheet : (place : ℕ) → TellsSheet sections bytes (sheet_figures (Reading.Malformed place)) → (lists : List (List Pair)) → Good sections bytes lists → ⊥
+  pub refused_is_no_sheet : (place : ℕ) → TellsSheet sections bytes (sheet_figures (Err (Malformed place))) → (lists : List (List Pair)) → Good sections bytes lists → ⊥
   refused_is_no_sheet place answer lists good = good_has_no_fault bytes lists place good (fault_found place answer)
 
   pub no_sheet_is_refused : length bytes ≤ most_bytes → NoSheet sections bytes → Refused sections bytes

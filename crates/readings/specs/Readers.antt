@@ -4,9 +4,8 @@ use Rattle.std.proofs.Math.Option.{Option, some, map}
 use Rattle.std.proofs.Math.ListN.{get_elem?}
 use Rattle.refusals.specs.Checks.{Check, ◌if◌, Tells}
 use Rattle.sheets.specs.declared.Cursor.{Cursor}
-use Rattle.sheets.specs.declared.Next.{Next}
+use Rattle.sheets.specs.Reading.{Next, Comes, FaultAt}
 use Rattle.sheets.specs.Grammar.{Pair, Good, states_from, sum_of_counts}
-use Rattle.sheets.specs.Reading.{Comes, FaultAt}
 use Rattle.readings.specs.declared.SheetFigures.{SheetFigures}
 use Rattle.readings.specs.declared.LineFigures.{LineFigures}
 use Rattle.readings.specs.Figures.{sheet_answered, sheet_refused, line_answered, line_refused, NextFigures, next_refused, next_figures}

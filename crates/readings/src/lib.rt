@@ -4,29 +4,18 @@
 ghost use Rattle.std.specs.Prelude.{◌≡◌};
 ghost use Rattle.readings.specs.Figures.{sheet_figures, line_figures, line_refused};
 
-use sheets::State;
+use sheets::{Fault, State};
 
 // Of a sheet that is read or written.
 pub const MOST_BYTES: usize = 65_536;
 
-// A whole sheet: how many state lines it has, or its refusal.
-#[derive(Clone, Copy)]
-pub enum Reading {
-    StateLines(u64),
-    Malformed { place: usize },
-    TooLong,
-}
+// A whole sheet: how many state lines it has, or its fault.
+pub type Reading = Result<u64, Fault>;
 
-// One state line of a sheet, or the sheet's own refusal.
-#[derive(Clone, Copy)]
-pub enum LineReading {
-    State(State),
-    NoSuchLine,
-    Malformed { place: usize },
-    TooLong,
-}
+// One state line of a sheet, or none where it has no such line, or the sheet's own fault.
+pub type LineReading = Result<Option<State>, Fault>;
 
-// The number of a reading, how many state lines, and the place of a fault.
+// As C gets them: the number of a reading, how many state lines, and the place of a fault.
 #[derive(Clone, Copy)]
 pub struct SheetFigures {
     pub number: u64,
@@ -34,7 +23,7 @@ pub struct SheetFigures {
     pub place: usize,
 }
 
-// The number of a reply to a question for a state line, the state, and the place of a fault.
+// As C gets them: the number of a reply to a question for a state line, the state, and the place of a fault.
 #[derive(Clone, Copy)]
 pub struct LineFigures {
     pub number: u64,
@@ -44,22 +33,22 @@ pub struct LineFigures {
     pub place: usize,
 }
 
-impl Reading {
-    pub fn figures(self) -> SheetFigures
-        ensures { result ≡ sheet_figures self }
-    {
-        match self {
-            Reading::StateLines(state_lines) => SheetFigures {
+impl From<Reading> for SheetFigures {
+    ghost from_gives = { λ reading figures. figures ≡ sheet_figures reading };
+
+    fn from(reading: Reading) -> SheetFigures {
+        match reading {
+            Ok(state_lines) => SheetFigures {
                 number: 0,
                 state_lines,
                 place: 0,
             },
-            Reading::Malformed { place } => SheetFigures {
+            Err(Fault::Malformed { place }) => SheetFigures {
                 number: 6,
                 state_lines: 0,
                 place,
             },
-            Reading::TooLong => SheetFigures {
+            Err(Fault::TooLong) => SheetFigures {
                 number: 7,
                 state_lines: 0,
                 place: 0,
@@ -68,21 +57,21 @@ impl Reading {
     }
 }
 
-impl LineReading {
-    pub fn figures(self) -> LineFigures
-        ensures { result ≡ line_figures self }
-    {
-        match self {
-            LineReading::State(state) => LineFigures {
+impl From<LineReading> for LineFigures {
+    ghost from_gives = { λ reading figures. figures ≡ line_figures reading };
+
+    fn from(reading: LineReading) -> LineFigures {
+        match reading {
+            Ok(Some(state)) => LineFigures {
                 number: 0,
                 fluid: state.fluid,
                 millikelvin: state.millikelvin,
                 pascals: state.pascals,
                 place: 0,
             },
-            LineReading::NoSuchLine => refused(16, 0),
-            LineReading::Malformed { place } => refused(6, place),
-            LineReading::TooLong => refused(7, 0),
+            Ok(None) => refused(16, 0),
+            Err(Fault::Malformed { place }) => refused(6, place),
+            Err(Fault::TooLong) => refused(7, 0),
         }
     }
 }

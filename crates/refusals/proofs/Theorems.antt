@@ -9,7 +9,8 @@ use native.Mathlib.Omega.{arith}
 use lib.Dec.{eqb}
 use Rattle.refusals.specs.declared.Refusal.{Refusal}
 use Rattle.refusals.specs.declared.Refusal.TheVariants.{NoSuchFluid, TemperatureTooLow, TemperatureTooHigh, PressureTooLow, PressureTooHigh, NoSuchSide, NoSuchSlot, WalkCutShort, ScalingOutOfRange, RootDiffers}
-use Rattle.refusals.specs.Numbers.{number_of_refusal}
+use Rattle.std.specs.Prelude.{Result, Ok, Err}
+use Rattle.refusals.specs.Numbers.{number_of_refusal, outcome}
 use Rattle.refusals.proofs.Lists.{none_or_first, has_number, number_on_list}
 use Rattle.refusals.specs.Checks.{Check, NoneOf, FirstOf, Tells, refuses, answers, Outcome, with_value, with_number, Gives}
 
@@ -109,6 +110,21 @@ no_refusal_has number unlike refusal is_number =
 pub never_zero : (refusal : Refusal) → number_of_refusal refusal ≡ 0 → ⊥
 unfolding refusal_of find
 never_zero = no_refusal_has 0 (λ same. omega arith)
+
+-- what came back tells which result it was
+result_of : {Value : Type 0} → Outcome Value → Result Value Refusal
+result_of (with_value value) = Ok value
+result_of (with_number refusal) = Err (refusal_of refusal)
+
+result_back : {Value : Type 0} (r : Result Value Refusal) → result_of (outcome r) ≡ r
+unfolding result_of
+result_back (Ok value) = refl
+result_back (Err refusal) = ap Err (refusal_of_number refusal)
+
+-- so two results that keep the same promise are equal, where two values that do are
+pub result_once : {Value : Type 0} (checks : List Check) {Is : Value → Type 0} → ((given other : Value) → Is given → Is other → given ≡ other) → (r s : Result Value Refusal) → Gives checks Is (outcome r) → Gives checks Is (outcome s) → r ≡ s
+result_once checks once r s p q =
+    sym (result_back r) ∙ ap result_of (gives_once checks once (outcome r) (outcome s) p q) ∙ result_back s
 
 -- two answers that keep what `number` promises are equal
 pub number_determined : (refusal : Refusal) {number other : ℕ} → number ≡ number_of_refusal refusal → other ≡ number_of_refusal refusal → number ≡ other

@@ -1,5 +1,6 @@
--- docs/RULES.md, "Replies": the number of each refusal of a state.
-use Rattle.std.specs.Prelude.{ℕ}
+-- docs/RULES.md, "Replies": the number of each refusal of a state, and what a result that brings a value or a refusal comes back as.
+use Rattle.std.specs.Prelude.{ℕ, Result, Ok, Err}
+use Rattle.refusals.specs.Checks.{Outcome, with_value, with_number}
 use Rattle.refusals.specs.declared.Refusal.{Refusal}
 use Rattle.refusals.specs.declared.Refusal.TheVariants.{NoSuchFluid, TemperatureTooLow, TemperatureTooHigh, PressureTooLow, PressureTooHigh, NoSuchSide, NoSuchSlot, WalkCutShort, ScalingOutOfRange, RootDiffers}
 
@@ -14,3 +15,7 @@ number_of_refusal NoSuchSlot = 4
 number_of_refusal WalkCutShort = 11
 number_of_refusal ScalingOutOfRange = 13
 number_of_refusal RootDiffers = 14
+
+abbrev pub outcome : {Value : Type 0} → Result Value Refusal → Outcome Value
+outcome (Ok value) = with_value value
+outcome (Err refusal) = with_number (number_of_refusal refusal)

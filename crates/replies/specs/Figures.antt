@@ -1,9 +1,10 @@
 -- docs/RULES.md, "Replies" and "Densities": the number of each reply, and its five figures, which are zeros where the state is refused.
-use Rattle.std.specs.Prelude.{ℕ}
+use Rattle.std.specs.Prelude.{ℕ, Result, Ok, Err}
+use Rattle.refusals.specs.declared.Refusal.{Refusal}
 use Rattle.refusals.specs.Numbers.{number_of_refusal}
 use Rattle.cubic.specs.Cubic.{Kind, ONE, SPLIT}
-use Rattle.replies.specs.declared.Reply.{Reply}
-use Rattle.replies.specs.declared.Reply.TheVariants.{One, Split, Refused}
+use Rattle.replies.specs.declared.Answer.{Answer}
+use Rattle.replies.specs.declared.Answer.TheVariants.{One, Split}
 use Rattle.replies.specs.declared.Figures.{Figures}
 
 -- a refused state has no kind
@@ -29,7 +30,7 @@ abbrev pub refused_with : (refusal : ℕ) → Figures
 refused_with refusal =
     record { number = refusal; kind = none; gas_root = 0; dense_root = 0; gas_density = 0; dense_density = 0 }
 
-abbrev pub figures_of : Reply → Figures
-figures_of (One root density) = answered_with ONE root root density density
-figures_of (Split gas dense gas_density dense_density) = answered_with SPLIT gas dense gas_density dense_density
-figures_of (Refused refusal) = refused_with (number_of_refusal refusal)
+abbrev pub figures_of : Result Answer Refusal → Figures
+figures_of (Ok (One root density)) = answered_with ONE root root density density
+figures_of (Ok (Split gas dense gas_density dense_density)) = answered_with SPLIT gas dense gas_density dense_density
+figures_of (Err refusal) = refused_with (number_of_refusal refusal)

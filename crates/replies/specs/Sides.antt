@@ -1,9 +1,9 @@
 -- docs/RULES.md, "Sides": a caller names a side, gas or dense, and gets what the whole reply has for it, its root and its density.
-use Rattle.std.specs.Prelude.{◌≡◌, ℕ, zero, suc}
+use Rattle.std.specs.Prelude.{◌≡◌, ℕ, zero, suc, Result, Ok, Err}
+use Rattle.refusals.specs.declared.Refusal.{Refusal}
 use Rattle.refusals.specs.Numbers.{number_of_refusal}
 use Rattle.replies.specs.declared.Figures.{Figures}
-use Rattle.replies.specs.declared.sides.SideReply.{SideReply}
-use Rattle.replies.specs.declared.sides.SideReply.TheVariants.{Answered, Refused}
+use Rattle.replies.specs.declared.sides.SideAnswer.{SideAnswer}
 use Rattle.replies.specs.declared.sides.SideFigures.{SideFigures}
 
 -- the sides' numbers
@@ -36,6 +36,6 @@ pub record SideOf (side : ℕ) (Holds : Figures → Type 0) (told : SideFigures)
 abbrev pub side_refused_with : (refusal : ℕ) → SideFigures
 side_refused_with refusal = record { number = refusal; root = 0; density = 0 }
 
-abbrev pub side_figures_of : SideReply → SideFigures
-side_figures_of (Answered root density) = record { number = 0; root = root; density = density }
-side_figures_of (Refused refusal) = side_refused_with (number_of_refusal refusal)
+abbrev pub side_figures_of : Result SideAnswer Refusal → SideFigures
+side_figures_of (Ok answer) = record { number = 0; root = answer.root; density = answer.density }
+side_figures_of (Err refusal) = side_refused_with (number_of_refusal refusal)

@@ -7,12 +7,12 @@ ghost use Rattle.std.specs.Prelude.{◌≡◌};
 ghost use Rattle.replies.specs.Figures.{figures_of, refused_with};
 
 use refusals::Refusal;
-pub use sides::{DENSE, GAS, SideFigures, SideReply, for_side};
+pub use sides::{DENSE, GAS, SideAnswer, SideFigures, SideReply, for_side};
 
 // Roots are in hundred-thousandths, densities in grams per cubic metre. The kind is the case: a state
 // whose two roots are equal is One, and has one density.
 #[derive(Clone, Copy)]
-pub enum Reply {
+pub enum Answer {
     One {
         root: u64,
         density: u64,
@@ -23,10 +23,11 @@ pub enum Reply {
         gas_density: u64,
         dense_density: u64,
     },
-    Refused(Refusal),
 }
 
-// The number of a reply, and its five figures.
+pub type Reply = Result<Answer, Refusal>;
+
+// As C gets them: the number of a reply, and its five figures.
 #[derive(Clone, Copy)]
 pub struct Figures {
     pub number: u64,
@@ -37,12 +38,12 @@ pub struct Figures {
     pub dense_density: u64,
 }
 
-impl Reply {
-    pub fn figures(self) -> Figures
-        ensures { result ≡ figures_of self }
-    {
-        match self {
-            Reply::One { root, density } => Figures {
+impl From<Reply> for Figures {
+    ghost from_gives = { λ reply figures. figures ≡ figures_of reply };
+
+    fn from(reply: Reply) -> Figures {
+        match reply {
+            Ok(Answer::One { root, density }) => Figures {
                 number: 0,
                 kind: 1,
                 gas_root: root,
@@ -50,12 +51,14 @@ impl Reply {
                 gas_density: density,
                 dense_density: density,
             },
-            Reply::Split {
-                gas,
-                dense,
-                gas_density,
-                dense_density,
-            } => Figures {
+            Ok(
+                Answer::Split {
+                    gas,
+                    dense,
+                    gas_density,
+                    dense_density,
+                },
+            ) => Figures {
                 number: 0,
                 kind: 2,
                 gas_root: gas,
@@ -63,7 +66,7 @@ impl Reply {
                 gas_density,
                 dense_density,
             },
-            Reply::Refused(refusal) => refused(refusal.number()),
+            Err(refusal) => refused(refusal.number()),
         }
     }
 }

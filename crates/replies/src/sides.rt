@@ -4,7 +4,8 @@ ghost use Rattle.replies.specs.Sides.{for_side, side_figures_of};
 
 use refusals::Refusal;
 
-// The sides' numbers.
+// The sides' numbers, by which C names a side. A type for it would be made twice in a call: where the side is looked at,
+// behind the state's own checks, and where its root is taken.
 pub const GAS: u64 = 0;
 
 pub const DENSE: u64 = 1;
@@ -13,19 +14,18 @@ pub const DENSE: u64 = 1;
 pub fn for_side(side: u64, gas: u64, dense: u64) -> u64
     ensures { result ≡ for_side side gas dense }
 {
-    if side == GAS {
-        return gas;
-    }
-    dense
+    if side == GAS { gas } else { dense }
 }
 
 #[derive(Clone, Copy)]
-pub enum SideReply {
-    Answered { root: u64, density: u64 },
-    Refused(Refusal),
+pub struct SideAnswer {
+    pub root: u64,
+    pub density: u64,
 }
 
-// The number of the reply, and its two figures.
+pub type SideReply = Result<SideAnswer, Refusal>;
+
+// As C gets them: the number of the reply, and its two figures.
 #[derive(Clone, Copy)]
 pub struct SideFigures {
     pub number: u64,
@@ -33,17 +33,17 @@ pub struct SideFigures {
     pub density: u64,
 }
 
-impl SideReply {
-    pub fn figures(self) -> SideFigures
-        ensures { result ≡ side_figures_of self }
-    {
-        match self {
-            SideReply::Answered { root, density } => SideFigures {
+impl From<SideReply> for SideFigures {
+    ghost from_gives = { λ reply figures. figures ≡ side_figures_of reply };
+
+    fn from(reply: SideReply) -> SideFigures {
+        match reply {
+            Ok(SideAnswer { root, density }) => SideFigures {
                 number: 0,
                 root,
                 density,
             },
-            SideReply::Refused(refusal) => SideFigures {
+            Err(refusal) => SideFigures {
                 number: refusal.number(),
                 root: 0,
                 density: 0,

@@ -2,26 +2,26 @@
 // crate `report_printing` has it. What can't be read or written is told on standard error, and nothing else is.
 #![tactic(auto)]
 
+ghost use Rattle.std.proofs.Common.{lit<};
+
 use pages::PAGE_BYTES;
-use report_printing::print;
+use streams::{Program, serve};
+
+#[derive(Clone, Copy)]
+struct Report;
+
+impl Program<PAGE_BYTES> for Report {
+    const UNREAD: &'static [u8] = b"report: the sheet was not read";
+
+    const UNWRITTEN: &'static [u8] = b"report: not all of the page was written";
+
+    fn print(&self, sheet: &[u8], text: &mut [u8; PAGE_BYTES]) -> usize {
+        report_printing::print(sheet, text)
+    }
+
+    ghost room_fits = { lit< tt };
+}
 
 fn main(rt: HostRuntime) {
-    // One byte more than a sheet may have, so that a longer one is told.
-    let mut input = [0u8; 65_537];
-    let mut why = None;
-    let read = streams::read(&mut rt.stdin(), &mut input, &mut why);
-    if read.failed {
-        streams::tell(&mut rt.stderr(), b"report: the sheet was not read", &why);
-        return;
-    }
-    let held = read.held;
-    let mut text = [0u8; PAGE_BYTES];
-    let written = print(&input[..held], &mut text);
-    if streams::write(&mut rt.stdout(), &text[..written], &mut why) < written {
-        streams::tell(
-            &mut rt.stderr(),
-            b"report: not all of the page was written",
-            &why,
-        );
-    }
+    serve(&Report, &mut rt.stdin(), &mut rt.stdout(), &mut rt.stderr());
 }

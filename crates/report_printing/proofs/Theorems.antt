@@ -2,23 +2,21 @@
 use mathlib.Core.Path.{◌≡◌, refl, sym, ap, subst, ◌∙◌}
 use mathlib.Core.List.{List}
 use Prim.Native.Nat.{ℕ}
+use Rattle.std.specs.Prelude.{Ok, Err}
+use Rattle.sheets.specs.declared.Fault.TheVariants.{Malformed, TooLong}
 use Rattle.refusals.specs.Checks.{refuses, answers}
-use Rattle.readings.specs.declared.Reading.TheVariants as Reading
 use Rattle.readings.specs.Figures.{sheet_refused}
 use Rattle.readings.specs.Replies.{ReadsAs}
 use Rattle.wording.proofs.Theorems.{fault_once}
 use Rattle.printing.specs.Prints.{Prints}
-use Rattle.reports.specs.declared.told.Reported.{Reported}
-use Rattle.reports.specs.declared.told.Reported.TheVariants as Reported
 use Rattle.reports.specs.declared.told.ReportFigures.{ReportFigures}
-use Rattle.reports.specs.Sheets.{figures_of, report_refused, ReportsAs}
+use Rattle.reports.specs.Sheets.{Reported, figures_of, report_refused, ReportsAs}
 use Rattle.reports.proofs.Theorems.{report_determined}
 use Rattle.report_printing.specs.Prints.{ReportedText, PrintsReport}
 
 reported_once : (reported : Reported) (text text' : List ℕ) → ReportedText reported text → ReportedText reported text' → text ≡ text'
-reported_once (Reported.Report report) text text' one other = one ∙ sym other
-reported_once (Reported.Malformed place) text text' one other = fault_once (Reading.Malformed place) text text' one other
-reported_once Reported.TooLong text text' one other = fault_once Reading.TooLong text text' one other
+reported_once (Ok report) text text' one other = one ∙ sym other
+reported_once (Err fault) text text' one other = fault_once (Err fault) text text' one other
 
 -- Two texts that meet the contract of `report_printing::print` are equal.
 pub print_determined : (bytes text text' : List ℕ) → PrintsReport bytes text → PrintsReport bytes text' → text ≡ text'
@@ -42,6 +40,6 @@ pub refused_as_sheet : (bytes text : List ℕ) (printed : PrintsReport bytes tex
 refused_as_sheet bytes text printed refused = by_reported printed.reported printed.reports_as printed.is_text refused
   where
     by_reported : (reported : Reported) → ReportsAs bytes (figures_of reported) → ReportedText reported text → ((figures_of reported).number ≡ 0 → ⊥) → Prints bytes text
-    by_reported (Reported.Report report) reports_as is_text refused = absurd (refused refl)
-    by_reported (Reported.Malformed place) reports_as is_text refused = record { reading = Reading.Malformed place; reads_as = refused_alike bytes 6 place refused reports_as; is_text = is_text }
-    by_reported Reported.TooLong reports_as is_text refused = record { reading = Reading.TooLong; reads_as = refused_alike bytes 7 0 refused reports_as; is_text = is_text }
+    by_reported (Ok report) reports_as is_text refused = absurd (refused refl)
+    by_reported (Err (Malformed place)) reports_as is_text refused = record { reading = Err (Malformed place); reads_as = refused_alike bytes 6 place refused reports_as; is_text = is_text }
+    by_reported (Err TooLong) reports_as is_text refused = record { reading = Err TooLong; reads_as = refused_alike bytes 7 0 refused reports_as; is_text = is_text }

@@ -15,7 +15,8 @@ use Rattle.replies.specs.declared.Figures.{Figures}
 use Rattle.replies.specs.Figures.{answered_with, refused_with}
 use Rattle.state.specs.Replies.{Replies}
 use Rattle.sheets.specs.Grammar.{all_sections, Pair}
-use Rattle.tallies.specs.Entries.{Entry, with_first, only, how_many, of_kind, of_number}
+use Rattle.std.specs.Prelude.{filter}
+use Rattle.tallies.specs.Entries.{Entry, how_many, of_kind, of_number}
 use Rattle.reports.specs.Sheets.{Entered}
 
 abbrev one_if : Bool → ℕ
@@ -24,7 +25,7 @@ one_if t = cond t 1 0
 more_by_one : (test : Entry → Bool) (entry : Entry) (entries : List Entry) → how_many test (entry ∷ entries) ≡ one_if (test entry) + how_many test entries
 more_by_one test entry entries = either (test entry)
   where
-    either : (t : Bool) → length (with_first t entry (only test entries)) ≡ one_if t + how_many test entries
+    either : (t : Bool) → length (cond t (entry ∷ filter test entries) (filter test entries)) ≡ one_if t + how_many test entries
     either true = omega arith
     either false = omega arith
 

@@ -1,10 +1,12 @@
 -- What is proved of reports, beside their contracts: the counts add up, the sum is exact, a refused sheet has an empty report, a sheet is reported alike
 -- whole and in parts, there always is an answer, and each contract fixes it. Assumes nothing.
 use mathlib.Core.Path.{◌≡◌, refl, sym, ap, ap₂, subst, ◌∙◌}
+use mathlib.Core.Bool.{cond}
 use mathlib.Core.List.{List, [], ◌∷◌, ◌++◌}
 use Prim.Native.Nat.{ℕ, suc, ◌+◌, ◌≤◌, ◌<◌}
 use native.Mathlib.Omega.{arith}
 use native.Mathlib.Decide.{dec_le}
+use lib.Dec.{eqb}
 use lib.ListN.{length}
 use Rattle.refusals.specs.Checks.{refuses, answers}
 use Rattle.refusals.proofs.Theorems.{tells_once}
@@ -13,12 +15,13 @@ use Rattle.replies.specs.Figures as replies
 use Rattle.state.proofs.Determined.{same_told}
 use Rattle.state.proofs.Theorems.{every_state_has_a_reply}
 use Rattle.sheets.specs.declared.State.{State}
+use Rattle.std.specs.Prelude.{Ok, Err}
+use Rattle.sheets.specs.declared.Fault.TheVariants.{Malformed, TooLong}
 use Rattle.sheets.specs.Grammar.{all_sections, most_states, Pair}
 use Rattle.sheets.proofs.Theorems.{written_once}
 use Rattle.readings.specs.Readers.{most_bytes, sheet_checks}
 use Rattle.readings.proofs.Answers.{long_told, refused_once}
-use Rattle.parts.specs.declared.Reader.{Reader}
-use Rattle.parts.specs.Bytes.{Outcome, then, taking}
+use Rattle.parts.specs.Bytes.{Reader, Outcome, then, taking}
 use Rattle.parts.specs.Served.{joined}
 use Rattle.parts.proofs.Bytes.{both}
 use Rattle.tallies.specs.declared.Section.{Section}
@@ -28,10 +31,8 @@ use Rattle.tallies.specs.Steps.{largest_number, empty_report}
 use Rattle.tallies.proofs.Theorems.{section_determined}
 use Rattle.reports.specs.declared.Running.{Running}
 use Rattle.reports.specs.declared.Reporting.{Reporting}
-use Rattle.reports.specs.declared.told.Reported.{Reported}
-use Rattle.reports.specs.declared.told.Reported.TheVariants as Reported
 use Rattle.reports.specs.declared.told.ReportFigures.{ReportFigures}
-use Rattle.reports.specs.Sheets.{Entered, Reports, Sections, sections_of, report_answered, report_refused, figures_of, OfGoodSheet, ReportsAs}
+use Rattle.reports.specs.Sheets.{Entered, Reports, Sections, sections_of, report_answered, report_refused, Reported, figures_of, OfGoodSheet, ReportsAs}
 use Rattle.reports.specs.Parts.{adds, AddsAll, TakesPart, TakesAll, at_start, over_here}
 use Rattle.reports.proofs.Bounds.{gas_density_fits}
 use Rattle.reports.proofs.Sections.{Light, sum_fits}
@@ -62,6 +63,15 @@ sum_is_exact fluid line pairs section few reports =
     )
 
 -- ---- a whole sheet
+-- a reply has the figures of its own case only, so that figures tell the reply
+abbrev reported_of : ReportFigures → Reported
+reported_of figures = cond (eqb figures.number 0) (Ok figures.report) (cond (eqb figures.number 6) (Err (Malformed figures.place)) (Err TooLong))
+
+reported_back : (reported : Reported) → reported_of (figures_of reported) ≡ reported
+reported_back (Ok report) = refl
+reported_back (Err (Malformed place)) = refl
+reported_back (Err TooLong) = refl
+
 -- A refused sheet has an empty report.
 pub refused_is_empty : (bytes : List ℕ) (figures : ReportFigures) → ReportsAs bytes figures → (figures.number ≡ 0 → ⊥) → figures.report ≡ empty_report
 refused_is_empty bytes figures (refuses refusal first told) refused = rw told.is_told refl
@@ -102,18 +112,7 @@ module _ (bytes : List ℕ) where
 
   -- Two replies to one sheet are equal.
   pub report_determined : (r s : Reported) → ReportsAs bytes (figures_of r) → ReportsAs bytes (figures_of s) → r ≡ s
-  report_determined r s one two = same_reported r s (figures_once (figures_of r) (figures_of s) one two)
-    where
-      same_reported : (r s : Reported) → figures_of r ≡ figures_of s → r ≡ s
-      same_reported (Reported.Report report) (Reported.Report report') same = ap (λ (f : ReportFigures). Reported.Report f.report) same
-      same_reported (Reported.Report report) (Reported.Malformed place) same = absurd (omega (arith, ap (λ (f : ReportFigures). f.number) same))
-      same_reported (Reported.Report report) Reported.TooLong same = absurd (omega (arith, ap (λ (f : ReportFigures). f.number) same))
-      same_reported (Reported.Malformed place) (Reported.Report report) same = absurd (omega (arith, ap (λ (f : ReportFigures). f.number) same))
-      same_reported (Reported.Malformed place) (Reported.Malformed place') same = ap (λ (f : ReportFigures). Reported.Malformed f.place) same
-      same_reported (Reported.Malformed place) Reported.TooLong same = absurd (omega (arith, ap (λ (f : ReportFigures). f.number) same))
-      same_reported Reported.TooLong (Reported.Report report) same = absurd (omega (arith, ap (λ (f : ReportFigures). f.number) same))
-      same_reported Reported.TooLong (Reported.Malformed place) same = absurd (omega (arith, ap (λ (f : ReportFigures). f.number) same))
-      same_reported Reported.TooLong Reported.TooLong same = refl
+  report_determined r s one two = sym (reported_back r) ∙ ap reported_of (figures_once (figures_of r) (figures_of s) one two) ∙ reported_back s
 
 -- ---- parts
 adds_once : (states : List State) (before after after' : Running) → AddsAll states before after → AddsAll states before after' → after ≡ after'
@@ -186,7 +185,7 @@ every_sheet_has_a_report bytes = short_or_long (dec_le (length bytes) most_bytes
     short_or_long (yes short) =
         let taken = every_part_is_taken at_start bytes in
         (over_here taken.0, taken_from_start bytes short taken.0 taken.1)
-    short_or_long (no long) = (Reported.TooLong, long_told bytes (omega arith))
+    short_or_long (no long) = (Err TooLong, long_told bytes (omega arith))
 
 -- ---- each contract fixes its answer
 pub start_determined : (r s : Reporting) → r ≡ at_start → s ≡ at_start → r ≡ s

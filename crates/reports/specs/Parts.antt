@@ -1,28 +1,21 @@
 -- docs/RULES.md, "The report", of a sheet that arrives in parts: what a part does to it, for any reader and any report at all, and what is said of a
 -- sheet that is over.
-use Rattle.std.specs.Prelude.{◌≡◌, List, [], ◌∷◌, ℕ}
+use Rattle.std.specs.Prelude.{◌≡◌, List, [], ◌∷◌, ℕ, Ok, Err}
 use Rattle.replies.specs.declared.Figures.{Figures}
 use Rattle.state.specs.Replies.{Replies}
 use Rattle.sheets.specs.declared.State.{State}
-use Rattle.readings.specs.declared.Reading.{Reading}
-use Rattle.readings.specs.declared.Reading.TheVariants as Reading
+use Rattle.readings.specs.Figures.{Reading}
 use Rattle.parts.specs.Bytes as parts
 use Rattle.parts.specs.Takes.{over}
 use Rattle.tallies.specs.declared.Report.{Report}
 use Rattle.tallies.specs.Steps.{plus, adds_to, empty_report}
-use Rattle.tallies.specs.Rows.{report_at}
 use Rattle.reports.specs.declared.Running.{Running}
 use Rattle.reports.specs.declared.Reporting.{Reporting}
-use Rattle.reports.specs.declared.told.Reported.{Reported}
-use Rattle.reports.specs.declared.told.Reported.TheVariants as Reported
+use Rattle.reports.specs.Sheets.{Reported}
 
 -- Before a state line stand the state lines so far, its own count line, and one for each section before its own; it is the next one.
 abbrev pub line_of : (state_lines fluid : ℕ) → ℕ
 line_of state_lines fluid = plus (plus state_lines fluid) 2
-
--- a report as far as it has come, in rows
-abbrev pub running_at : (state_lines : ℕ) (hydrogen oxygen nitrogen : List ℕ) → Running
-running_at state_lines hydrogen oxygen nitrogen = record { state_lines = state_lines; report = report_at hydrogen oxygen nitrogen }
 
 -- one state line more, with the reply to it
 abbrev pub adds : Running → State → Figures → Running
@@ -61,9 +54,8 @@ at_start = record { reader = parts.at_start; running = nothing_yet }
 
 -- what is said of a sheet is said of its report
 abbrev pub said_of : Reading → Report → Reported
-said_of (Reading.StateLines count) report = Reported.Report report
-said_of (Reading.Malformed place) report = Reported.Malformed place
-said_of Reading.TooLong report = Reported.TooLong
+said_of (Ok count) report = Ok report
+said_of (Err fault) report = Err fault
 
 abbrev pub over_here : Reporting → Reported
 over_here reporting = said_of (over reporting.reader) reporting.running.report

@@ -1,17 +1,17 @@
 -- docs/RULES.md, "The report": what is told of any bytes at all, taken for a sheet. Of a good one each section is reported by itself; a refused one
 -- has an empty report.
-use Rattle.std.specs.Prelude.{◌≡◌, List, [], ◌∷◌, ℕ, suc, ◌+◌, length}
+use Rattle.std.specs.Prelude.{◌≡◌, List, [], ◌∷◌, ℕ, suc, ◌+◌, length, Result, Ok, Err}
 use Rattle.refusals.specs.Checks.{Tells}
 use Rattle.replies.specs.declared.Figures.{Figures}
 use Rattle.state.specs.Replies.{Replies}
+use Rattle.sheets.specs.declared.Fault.{Fault}
+use Rattle.sheets.specs.declared.Fault.TheVariants.{Malformed, TooLong}
 use Rattle.sheets.specs.Grammar.{all_sections, Pair, Good}
 use Rattle.readings.specs.Readers.{sheet_checks, Refused}
 use Rattle.tallies.specs.declared.Section.{Section}
 use Rattle.tallies.specs.declared.Report.{Report}
 use Rattle.tallies.specs.Entries.{Entry, SectionOf}
 use Rattle.tallies.specs.Steps.{empty_report}
-use Rattle.reports.specs.declared.told.Reported.{Reported}
-use Rattle.reports.specs.declared.told.Reported.TheVariants as Reported
 use Rattle.reports.specs.declared.told.ReportFigures.{ReportFigures}
 
 -- the replies to states of one fluid that stand on one line after another
@@ -42,10 +42,14 @@ report_answered report = record { number = 0; report = report; place = 0 }
 abbrev pub report_refused : (number place : ℕ) → ReportFigures
 report_refused number place = record { number = number; report = empty_report; place = place }
 
+-- a sheet's report, or its fault
+abbrev pub Reported : Type 0
+Reported = Result Report Fault
+
 abbrev pub figures_of : Reported → ReportFigures
-figures_of (Reported.Report report) = report_answered report
-figures_of (Reported.Malformed place) = report_refused 6 place
-figures_of Reported.TooLong = report_refused 7 0
+figures_of (Ok report) = report_answered report
+figures_of (Err (Malformed place)) = report_refused 6 place
+figures_of (Err TooLong) = report_refused 7 0
 
 -- a good sheet: its lines are counted from 1, hydrogen's count line first
 pub record OfGoodSheet (bytes : List ℕ) (figures : ReportFigures) : Type 0 where

@@ -6,17 +6,17 @@
 mod told;
 
 ghost use Rattle.std.specs.Prelude.{◌≡◌};
-ghost use Rattle.reports.specs.Parts.{line_of, running_at, AddsOne, TakesPart, at_start, over_here};
+ghost use Rattle.reports.specs.Parts.{line_of, AddsOne, TakesPart, at_start, over_here};
 ghost use Rattle.reports.specs.Sheets.{figures_of, ReportsAs};
 
-use parts::{Brought, Reader};
-use readings::Reading;
-use sheets::{Next, State};
-use tallies::{Report, add, empty, plus, report_of, row};
+use parts::Reader;
+use replies::Figures;
+use sheets::State;
+use tallies::{Report, plus};
 pub use told::{ReportFigures, Reported};
 
 // The report as far as the sheet has come, and how many state lines it has of it.
-#[derive(Clone, Copy)]
+#[derive(Clone, Copy, Default)]
 pub struct Running {
     pub state_lines: u64,
     pub report: Report,
@@ -38,22 +38,16 @@ fn line_of(state_lines: u64, fluid: u64) -> u64
     plus(before, 2)
 }
 
-// One state line more, with the reply to it: it is added to the row of its section. Answers how many there are now.
-fn add_line(
-    line: State,
-    state_lines: u64,
-    hydrogen: &mut [u64; 11],
-    oxygen: &mut [u64; 11],
-    nitrogen: &mut [u64; 11],
-) -> u64
-    ensures { AddsOne (running_at state_lines hydrogen.old oxygen.old nitrogen.old) line (running_at result hydrogen.new oxygen.new nitrogen.new) }
-{
-    let fluid = line.fluid;
-    let number = line_of(state_lines, fluid);
-    let reply = state::ask(fluid, line.millikelvin, line.pascals);
-    let figures = reply.figures();
-    add(fluid, number, figures, hydrogen, oxygen, nitrogen);
-    plus(state_lines, 1)
+impl Running {
+    // One state line more, with the reply to it.
+    fn add_line(&mut self, line: State)
+        ensures { AddsOne self.old line self.new }
+    {
+        let number = line_of(self.state_lines, line.fluid);
+        let reply = state::ask(line.fluid, line.millikelvin, line.pascals);
+        self.report.add(line.fluid, number, Figures::from(reply));
+        self.state_lines = plus(self.state_lines, 1);
+    }
 }
 
 // Before the first byte of a sheet.
@@ -62,51 +56,23 @@ pub fn start() -> Reporting
 {
     Reporting {
         reader: parts::start(),
-        running: Running {
-            state_lines: 0,
-            report: empty(),
-        },
+        running: Running::default(),
     }
 }
 
 // Takes all bytes of a part, whatever the reader and the report hold.
-pub fn take(reporting: Reporting, part: &[u8]) -> Reporting
+pub fn take(mut reporting: Reporting, part: &[u8]) -> Reporting
     ensures { TakesPart reporting part.now result }
 {
-    let running = reporting.running;
-    let report = running.report;
-    let mut reader = reporting.reader;
-    let mut state_lines = running.state_lines;
-    let mut hydrogen = row(report.hydrogen);
-    let mut oxygen = row(report.oxygen);
-    let mut nitrogen = row(report.nitrogen);
     let mut rest = part;
     loop {
-        let told = parts::take(reader, rest);
-        let brought = told.brought;
-        let taken = told.taken;
-        reader = told.reader;
-        match brought {
-            Brought::State(line) => {
-                state_lines = add_line(
-                    line,
-                    state_lines,
-                    &mut hydrogen,
-                    &mut oxygen,
-                    &mut nitrogen,
-                );
-                rest = &rest[taken..];
-            }
-            Brought::Nothing => {
-                return Reporting {
-                    reader,
-                    running: Running {
-                        state_lines,
-                        report: report_of(hydrogen, oxygen, nitrogen),
-                    },
-                };
-            }
-        }
+        let told = parts::take(reporting.reader, rest);
+        reporting.reader = told.reader;
+        let Some(line) = told.brought else {
+            return reporting;
+        };
+        reporting.running.add_line(line);
+        rest = &rest[told.taken..];
     }
 }
 
@@ -114,14 +80,8 @@ pub fn take(reporting: Reporting, part: &[u8]) -> Reporting
 pub fn end(reporting: Reporting) -> Reported
     ensures { result ≡ over_here reporting }
 {
-    let running = reporting.running;
-    let report = running.report;
-    let reader = reporting.reader;
-    match parts::end(reader) {
-        Reading::StateLines(_) => Reported::Report(report),
-        Reading::Malformed { place } => Reported::Malformed { place },
-        Reading::TooLong => Reported::TooLong,
-    }
+    parts::end(reporting.reader)?;
+    Ok(reporting.running.report)
 }
 
 // The report of a whole sheet, in one pass over it.
@@ -129,32 +89,10 @@ pub fn report(sheet: &[u8]) -> Reported
     ensures { ReportsAs sheet.now (figures_of result) }
 {
     let mut cursor = reader::start();
-    let mut state_lines = 0;
-    let mut hydrogen = [0; 11];
-    let mut oxygen = [0; 11];
-    let mut nitrogen = [0; 11];
-    loop {
-        match reader::next(sheet, cursor) {
-            Next::State { state, after } => {
-                state_lines = add_line(
-                    state,
-                    state_lines,
-                    &mut hydrogen,
-                    &mut oxygen,
-                    &mut nitrogen,
-                );
-                cursor = after;
-            }
-            Next::Over => {
-                let report = report_of(hydrogen, oxygen, nitrogen);
-                return Reported::Report(report);
-            }
-            Next::Malformed { place } => {
-                return Reported::Malformed { place };
-            }
-            Next::TooLong => {
-                return Reported::TooLong;
-            }
-        }
+    let mut running = Running::default();
+    while let Some(line) = reader::next(sheet, cursor)? {
+        running.add_line(line.state);
+        cursor = line.after;
     }
+    Ok(running.report)
 }

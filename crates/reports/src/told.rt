@@ -2,16 +2,12 @@
 ghost use Rattle.std.specs.Prelude.{◌≡◌};
 ghost use Rattle.reports.specs.Sheets.{figures_of, report_refused};
 
+use sheets::Fault;
 use tallies::{Report, empty};
 
-#[derive(Clone, Copy)]
-pub enum Reported {
-    Report(Report),
-    Malformed { place: usize },
-    TooLong,
-}
+pub type Reported = Result<Report, Fault>;
 
-// The number, the report, and the place of a fault.
+// As C gets them: the number, the report, and the place of a fault.
 #[derive(Clone, Copy)]
 pub struct ReportFigures {
     pub number: u64,
@@ -19,18 +15,18 @@ pub struct ReportFigures {
     pub place: usize,
 }
 
-impl Reported {
-    pub fn figures(self) -> ReportFigures
-        ensures { result ≡ figures_of self }
-    {
-        match self {
-            Reported::Report(report) => ReportFigures {
+impl From<Reported> for ReportFigures {
+    ghost from_gives = { λ reported figures. figures ≡ figures_of reported };
+
+    fn from(reported: Reported) -> ReportFigures {
+        match reported {
+            Ok(report) => ReportFigures {
                 number: 0,
                 report,
                 place: 0,
             },
-            Reported::Malformed { place } => refused(6, place),
-            Reported::TooLong => refused(7, 0),
+            Err(Fault::Malformed { place }) => refused(6, place),
+            Err(Fault::TooLong) => refused(7, 0),
         }
     }
 }

@@ -1,28 +1,19 @@
 -- Two answers that keep what `find` promises are equal, and an accepted state has roots. Assumes nothing.
-use mathlib.Core.Path.{◌≡◌, refl, sym, ap, ◌∙◌}
+use mathlib.Core.Path.{◌≡◌, sym, ◌∙◌}
 use mathlib.Core.List.{List}
 use Prim.Native.Nat.{ℕ}
-use Rattle.refusals.specs.Checks.{Check, NoneOf, Outcome, with_value, with_number, Gives}
-use Rattle.refusals.proofs.Theorems.{gives_once, refusal_of, refusal_of_number}
+use Rattle.std.specs.Prelude.{Result}
+use Rattle.refusals.specs.declared.Refusal.{Refusal}
+use Rattle.refusals.specs.Checks.{Check, NoneOf, Gives}
+use Rattle.refusals.specs.Numbers.{outcome}
+use Rattle.refusals.proofs.Theorems.{result_once}
 use Rattle.cubic.proofs.Theorems.{gas_root_unique, dense_root_unique, gas_root_exists, dense_root_exists}
 use Rattle.fluid.specs.declared.choice.Fluid.{Fluid}
 use Rattle.fluid.specs.Checks.{state_checks}
 use Rattle.fluid.proofs.Fluids.{number_determines_fluid}
 use Rattle.fluid.proofs.Theorems.{reduced_determined, reached_exists}
-use Rattle.roots.specs.declared.Finding.{Finding}
-use Rattle.roots.specs.Promise.{Found, finding, HasRoots, Finds}
-
-pub finds : {number millikelvin pascals : ℕ} (found : Found) → NoneOf (state_checks number millikelvin pascals) → HasRoots number millikelvin pascals found → Finds number millikelvin pascals (with_value found)
-finds found none roots = (none, roots)
-
-finding_of : Outcome Found → Finding
-finding_of (with_value found) = Finding.Roots found.fluid found.gas found.dense
-finding_of (with_number refusal) = Finding.Refused (refusal_of refusal)
-
-finding_back : (r : Finding) → finding_of (finding r) ≡ r
-unfolding finding_of
-finding_back (Finding.Roots fluid gas dense) = refl
-finding_back (Finding.Refused refusal) = ap Finding.Refused (refusal_of_number refusal)
+use Rattle.roots.specs.declared.Found.{Found}
+use Rattle.roots.specs.Promise.{HasRoots, Finds}
 
 module _ (number millikelvin pascals : ℕ) where
   made : (fluid : Fluid) (gas dense : ℕ) → Found
@@ -39,12 +30,10 @@ module _ (number millikelvin pascals : ℕ) where
       fields
 
   -- whatever the list of checks is
-  pub finding_once : (checks : List Check) (r s : Finding) → Gives checks (HasRoots number millikelvin pascals) (finding r) → Gives checks (HasRoots number millikelvin pascals) (finding s) → r ≡ s
-  finding_once checks r s p q =
-      let same = gives_once checks roots_once (finding r) (finding s) p q in
-      sym (finding_back r) ∙ ap finding_of same ∙ finding_back s
+  pub finding_once : (checks : List Check) (r s : Result Found Refusal) → Gives checks (HasRoots number millikelvin pascals) (outcome r) → Gives checks (HasRoots number millikelvin pascals) (outcome s) → r ≡ s
+  finding_once checks = result_once checks roots_once
 
-  pub finding_determined : (r s : Finding) → Finds number millikelvin pascals (finding r) → Finds number millikelvin pascals (finding s) → r ≡ s
+  pub finding_determined : (r s : Result Found Refusal) → Finds number millikelvin pascals (outcome r) → Finds number millikelvin pascals (outcome s) → r ≡ s
   finding_determined = finding_once (state_checks number millikelvin pascals)
 
   -- a state to which no check applies has two roots

@@ -1,24 +1,12 @@
 -- docs/RULES.md, "Crossings, roots and kinds": what `find` promises of a state, of what its answer comes back as. No starting point occurs here.
 use Rattle.std.specs.Prelude.{◌≡◌, ℕ}
-use Rattle.refusals.specs.Checks.{Outcome, with_value, with_number, Gives}
-use Rattle.refusals.specs.Numbers.{number_of_refusal}
+use Rattle.refusals.specs.Checks.{Outcome, Gives}
 use Rattle.cubic.specs.Cubic.{GasRoot, DenseRoot}
-use Rattle.fluid.specs.declared.choice.Fluid.{Fluid}
 use Rattle.fluid.specs.declared.coefficients.Reduced.{Reduced}
 use Rattle.fluid.specs.Figures.{number_of}
 use Rattle.fluid.specs.Checks.{state_checks}
 use Rattle.fluid.specs.Reduced.{Reduces}
-use Rattle.roots.specs.declared.Finding.{Finding}
-
--- the fluid of a state and its two roots
-pub record Found : Type 0 where
-  pub fluid : Fluid
-  pub gas : ℕ
-  pub dense : ℕ
-
-abbrev pub finding : Finding → Outcome Found
-finding (Finding.Roots fluid gas dense) = with_value (record { fluid = fluid; gas = gas; dense = dense })
-finding (Finding.Refused refusal) = with_number (number_of_refusal refusal)
+use Rattle.roots.specs.declared.Found.{Found}
 
 pub record HasRoots (number millikelvin pascals : ℕ) (found : Found) : Type 0 where
   pub is_number : number ≡ number_of found.fluid

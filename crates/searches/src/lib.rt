@@ -12,51 +12,37 @@ ghost use Rattle.searches.specs.Promise.{Ends};
 use crate::newton::{climb, fall};
 use crate::sides::BELOW_BEND;
 use crate::starts::{crosses, on_dense_side, on_gas_side, positive_from_bend};
-use cubic::{LARGEST_A, LARGEST_B};
+use cubic::Cubic;
 use guesses::nearer_dense;
 
-// The crossing at the bend or above, the place below the bend if there is none, and 0 where a or b is out of
+// The crossing at the bend or above, the place below the bend if there is none, and none where a or b is out of
 // bounds. A start that is that crossing spares the search, and any other is forgotten.
-pub fn gas_crossing(a: u64, b: u64, start: u64) -> u64
+pub fn gas_crossing(a: u64, b: u64, start: u64) -> Option<u64>
     ensures { Ends FallsTo a b result }
 {
-    if LARGEST_A < a {
-        return 0;
+    let cubic = Cubic::new(a, b)?;
+    if on_gas_side(cubic, start) && crosses(cubic, start) {
+        return Some(start);
     }
-    if LARGEST_B < b {
-        return 0;
+    if positive_from_bend(cubic) {
+        return Some(BELOW_BEND);
     }
-    if on_gas_side(b, start) {
-        if crosses(a, b, start) {
-            return start;
-        }
-    }
-    if positive_from_bend(a, b) {
-        return BELOW_BEND;
-    }
-    fall(a, b)
+    Some(fall(cubic))
 }
 
-// The crossing below the bend, the bend if there is none, and 0 where a or b is out of bounds. A start that is that
-// crossing, as where a state without a gas root from the bend on is asked again, or else a guess that is it spares the
-// search, and any other is forgotten.
-pub fn dense_crossing(a: u64, b: u64, start: u64) -> u64
+// The crossing below the bend, the bend if there is none, and none where a or b is out of bounds. A start that is
+// that crossing, as where a state without a gas root from the bend on is asked again, or else a guess that is it
+// spares the search, and any other is forgotten.
+pub fn dense_crossing(a: u64, b: u64, start: u64) -> Option<u64>
     ensures { Ends ClimbsTo a b result }
 {
-    if LARGEST_A < a {
-        return 0;
-    }
-    if LARGEST_B < b {
-        return 0;
-    }
-    if on_dense_side(b, start) {
-        if crosses(a, b, start) {
-            return start;
-        }
+    let cubic = Cubic::new(a, b)?;
+    if on_dense_side(cubic, start) && crosses(cubic, start) {
+        return Some(start);
     }
     let tried = nearer_dense(a, b);
-    if crosses(a, b, tried) {
-        return tried;
+    if crosses(cubic, tried) {
+        return Some(tried);
     }
-    climb(a, b)
+    Some(climb(cubic))
 }

@@ -2,25 +2,26 @@
 // crate `printing` has it. What can't be read or written is told on standard error, and nothing else is.
 #![tactic(auto)]
 
-use printing::{LONGEST_TEXT, print};
+ghost use Rattle.std.proofs.Common.{lit<};
+
+use printing::LONGEST_TEXT;
+use streams::{Program, serve};
+
+#[derive(Clone, Copy)]
+struct Sheet;
+
+impl Program<LONGEST_TEXT> for Sheet {
+    const UNREAD: &'static [u8] = b"sheet: the sheet was not read";
+
+    const UNWRITTEN: &'static [u8] = b"sheet: not all answers were written";
+
+    fn print(&self, sheet: &[u8], text: &mut [u8; LONGEST_TEXT]) -> usize {
+        printing::print(sheet, text)
+    }
+
+    ghost room_fits = { lit< tt };
+}
 
 fn main(rt: HostRuntime) {
-    // One byte more than a sheet may have, so that a longer one is told.
-    let mut input = [0u8; 65_537];
-    let mut why = None;
-    let read = streams::read(&mut rt.stdin(), &mut input, &mut why);
-    if read.failed {
-        streams::tell(&mut rt.stderr(), b"sheet: the sheet was not read", &why);
-        return;
-    }
-    let held = read.held;
-    let mut text = [0u8; LONGEST_TEXT];
-    let written = print(&input[..held], &mut text);
-    if streams::write(&mut rt.stdout(), &text[..written], &mut why) < written {
-        streams::tell(
-            &mut rt.stderr(),
-            b"sheet: not all answers were written",
-            &why,
-        );
-    }
+    serve(&Sheet, &mut rt.stdin(), &mut rt.stdout(), &mut rt.stderr());
 }

@@ -6,8 +6,7 @@ use Prim.Native.Nat.{ℕ, zero, suc, ◌+◌, ◌-◌, ◌*◌, ◌/◌, ◌%◌
 use native.Mathlib.Omega.{arith}
 use lib.Dec.{ltb, leb, eqb}
 use borrow.Author.Tests.{ltb-false, leb-false, eqb-false, lt-ltb, le-ltb, lt-leb, ne_eqb}
-use Rattle.sheets.specs.declared.Number.{Number}
-use Rattle.sheets.specs.declared.Number.TheVariants.{Is, None}
+use Rattle.std.specs.Prelude.{Option, Some, None}
 use Rattle.sheets.specs.Grammar.{digit, behind, digits, decimal}
 use Rattle.sheets.specs.Digests.{ten_digits, opens, behind_digits, grows}
 
@@ -24,41 +23,41 @@ pub record Grown (number byte next : ℕ) : Type 0 where
   pub has_room : number < ten_digits
   pub is_next : next ≡ 10 * number + value
 
-abbrev pub Told : Number → (byte : ℕ) → Type 0
+abbrev pub Told : Option ℕ → (byte : ℕ) → Type 0
 Told None byte = Unit {0}
-Told (Is value) byte = IsDigit byte value
+Told (Some value) byte = IsDigit byte value
 
 pub opens_told : (byte : ℕ) → Told (opens byte) byte
 opens_told byte = low (ltb byte 48) refl
   where
-    high : (t : Bool) → 48 ≤ byte → ltb 57 byte ≡ t → Told (cond t None (Is (byte - 48))) byte
+    high : (t : Bool) → 48 ≤ byte → ltb 57 byte ≡ t → Told (cond t None (Some (byte - 48))) byte
     high true above e = tt
     high false above e = let below : byte ≤ 57 = ltb-false 57 byte e in record { is_byte = omega arith; small = omega arith }
 
-    low : (t : Bool) → ltb byte 48 ≡ t → Told (cond t None (cond (ltb 57 byte) None (Is (byte - 48)))) byte
+    low : (t : Bool) → ltb byte 48 ≡ t → Told (cond t None (cond (ltb 57 byte) None (Some (byte - 48)))) byte
     low true e = tt
     low false e = high (ltb 57 byte) (ltb-false byte 48 e) refl
 
-pub read_digit : (byte : ℕ) {value : ℕ} {read : Number} → read ≡ opens byte → read ≡ Is value → IsDigit byte value
-read_digit byte from_byte to_value = subst (λ (number : Number). Told number byte) (sym from_byte ∙ to_value) (opens_told byte)
+pub read_digit : (byte : ℕ) {value : ℕ} {read : Option ℕ} → read ≡ opens byte → read ≡ Some value → IsDigit byte value
+read_digit byte from_byte to_value = subst (λ (number : Option ℕ). Told number byte) (sym from_byte ∙ to_value) (opens_told byte)
 
-pub opens_digit : (value : ℕ) → value < 10 → opens (digit value) ≡ Is value
+pub opens_digit : (value : ℕ) → value < 10 → opens (digit value) ≡ Some value
 opens_digit value small =
     let above : 48 ≤ digit value = omega arith in
     let below : digit value ≤ 57 = omega arith in
     let same : digit value - 48 ≡ value = omega arith in
     simp (le-ltb (digit value) 48 above, le-ltb 57 (digit value) below, same)
 
-abbrev pub GrownTold : Number → (number byte : ℕ) → Type 0
+abbrev pub GrownTold : Option ℕ → (number byte : ℕ) → Type 0
 GrownTold None number byte = Unit {0}
-GrownTold (Is next) number byte = Grown number byte next
+GrownTold (Some next) number byte = Grown number byte next
 
 pub grows_told : (number byte : ℕ) → GrownTold (grows number byte) number byte
 grows_told number byte = zero_or_not (eqb number 0) refl
   where
-    by_digit : (read : Number) → Told read byte → 0 < number → number < ten_digits → GrownTold (behind_digits number read) number byte
+    by_digit : (read : Option ℕ) → Told read byte → 0 < number → number < ten_digits → GrownTold (behind_digits number read) number byte
     by_digit None told positive room = tt
-    by_digit (Is value) told positive room = record { value = value; is_digit = told; not_zero = positive; has_room = room; is_next = refl }
+    by_digit (Some value) told positive room = record { value = value; is_digit = told; not_zero = positive; has_room = room; is_next = refl }
 
     full_or_not : (t : Bool) → 0 < number → leb ten_digits number ≡ t → GrownTold (cond t None (behind_digits number (opens byte))) number byte
     full_or_not true positive e = tt
@@ -68,7 +67,7 @@ grows_told number byte = zero_or_not (eqb number 0) refl
     zero_or_not true e = tt
     zero_or_not false e = let not_zero = eqb-false number 0 e in full_or_not (leb ten_digits number) (omega arith) refl
 
-pub grows_digit : (number value : ℕ) → 0 < number → number < ten_digits → value < 10 → grows number (digit value) ≡ Is (10 * number + value)
+pub grows_digit : (number value : ℕ) → 0 < number → number < ten_digits → value < 10 → grows number (digit value) ≡ Some (10 * number + value)
 grows_digit number value positive room small =
     simp (ne_eqb number 0 (λ e. omega arith), lt-leb ten_digits number room, opens_digit value small)
 

@@ -8,11 +8,11 @@ use native.Mathlib.Omega.{arith}
 use lib.ListN.{length}
 use Rattle.sheets.specs.declared.State.{State}
 use Rattle.sheets.specs.declared.Cursor.{Cursor}
-use Rattle.sheets.specs.declared.Next.{Next}
-use Rattle.sheets.specs.declared.Next.TheVariants as Next
+use Rattle.sheets.specs.Reading.{Next, Comes, behind_count, here, Reads}
+use Rattle.sheets.specs.declared.Fault.TheVariants.{Malformed, TooLong}
+use Rattle.std.specs.Prelude.{Ok, Err, Some, None}
 use Rattle.sheets.specs.declared.Line.{Line}
 use Rattle.sheets.specs.declared.Line.TheVariants.{Count, Told}
-use Rattle.sheets.specs.Reading.{Comes, behind_count, here, Reads}
 use Rattle.sheets.specs.Lines.{met}
 use Rattle.sheets.proofs.Meets.{Stands, met_stands}
 use Rattle.sheets.proofs.Walks.{Ends, comes_moves}
@@ -43,13 +43,13 @@ module _ (sections : ℕ) (bytes : List ℕ) where
 
   -- a state line leaves fewer bytes to read
   behind_state : (cursor : Cursor) (next : Next) → Comes sections bytes cursor next → ((after : Cursor) → length bytes - after.place < length bytes - cursor.place → Whole after) → Whole cursor
-  behind_state cursor (Next.State state after) comes later =
+  behind_state cursor (Ok (Some line)) comes later =
       let moves = comes_moves bytes comes in
-      let rest = later after (omega (arith, moves.on, moves.inside)) in
-      record { states = state ∷ rest.states; last = rest.last; ends = rest.ends; reads = (after, comes, rest.reads) }
-  behind_state cursor Next.Over comes later = record { states = []; last = Next.Over; ends = tt; reads = comes }
-  behind_state cursor (Next.Malformed place) comes later = record { states = []; last = Next.Malformed place; ends = tt; reads = comes }
-  behind_state cursor Next.TooLong comes later = record { states = []; last = Next.TooLong; ends = tt; reads = comes }
+      let rest = later line.after (omega (arith, moves.on, moves.inside)) in
+      record { states = line.state ∷ rest.states; last = rest.last; ends = rest.ends; reads = (line.after, comes, rest.reads) }
+  behind_state cursor (Ok None) comes later = record { states = []; last = Ok None; ends = tt; reads = comes }
+  behind_state cursor (Err (Malformed place)) comes later = record { states = []; last = Err (Malformed place); ends = tt; reads = comes }
+  behind_state cursor (Err TooLong) comes later = record { states = []; last = Err TooLong; ends = tt; reads = comes }
 
   pub whole : (more : ℕ) (cursor : Cursor) → length bytes - cursor.place < more → Whole cursor
   whole zero cursor few = absurd (not-suc-le-zero few)

@@ -5,12 +5,12 @@ use mathlib.Core.List.{List}
 use Prim.Native.Nat.{ℕ, suc, ◌+◌, ◌-◌, ◌≤◌}
 use native.Mathlib.Omega.{arith}
 use lib.ListN.{length, take, drop, length-drop}
-use Rattle.sheets.specs.declared.Next.{Next}
-use Rattle.sheets.specs.declared.Next.TheVariants as Next
+use Rattle.sheets.specs.Reading.{Next, start, Reads, FaultAt, line_of}
+use Rattle.sheets.specs.declared.Fault.TheVariants.{Malformed, TooLong}
+use Rattle.std.specs.Prelude.{Ok, Err, Some, None}
 use Rattle.sheets.specs.declared.Digest.TheVariants.{Empty}
 use Rattle.sheets.specs.declared.Scanned.{Scanned}
 use Rattle.sheets.specs.Grammar.{Pair, Good, states_from}
-use Rattle.sheets.specs.Reading.{start, Reads, FaultAt, line_of}
 use Rattle.sheets.specs.Digests.{whole_line, scans}
 use Rattle.sheets.proofs.Splits.{take_line, inside}
 use Rattle.sheets.proofs.Walks.{Ends, reads_determined, reads_never_too_long, reading_fault_inside}
@@ -21,12 +21,12 @@ use Rattle.sheets.proofs.Readable.{good_read}
 module _ {sections : ℕ} (bytes : List ℕ) where
   pub good_has_no_fault : (lists : List (List Pair)) (place : ℕ) → Good sections bytes lists → FaultAt sections bytes place → ⊥
   good_has_no_fault lists place good fault =
-      let same = reads_determined sections bytes start fault.before (states_from 0 lists) (Next.Malformed place) Next.Over tt tt fault.reads (good_read sections bytes lists good) in
+      let same = reads_determined sections bytes start fault.before (states_from 0 lists) (Err (Malformed place)) (Ok None) tt tt fault.reads (good_read sections bytes lists good) in
       let never : ◌≡◌ {A = ℕ} 0 1 = cc same.same_last in omega arith
 
   pub fault_once : (place place' : ℕ) → FaultAt sections bytes place → FaultAt sections bytes place' → place ≡ place'
   fault_once place place' fault fault' =
-      let same = reads_determined sections bytes start fault.before fault'.before (Next.Malformed place) (Next.Malformed place') tt tt fault.reads fault'.reads in
+      let same = reads_determined sections bytes start fault.before fault'.before (Err (Malformed place)) (Err (Malformed place')) tt tt fault.reads fault'.reads in
       cc same.same_last
 
   pub good_or_fault : ((lists : List (List Pair)) × Good sections bytes lists) ⊎ ((place : ℕ) × FaultAt sections bytes place)
@@ -36,10 +36,10 @@ module _ {sections : ℕ} (bytes : List ℕ) where
       read_whole = whole sections bytes (suc (length bytes)) start (omega arith)
 
       by_end : (last : Next) → Ends last → Reads sections bytes start read_whole.states last → ((lists : List (List Pair)) × Good sections bytes lists) ⊎ ((place : ℕ) × FaultAt sections bytes place)
-      by_end (Next.State state after) ends reads = absurd ends
-      by_end Next.Over ends reads = let written = read_good bytes read_whole.states reads in inl (written.lists, written.good)
-      by_end (Next.Malformed place) ends reads = inr (place, record { before = read_whole.states; reads = reads })
-      by_end Next.TooLong ends reads = absurd (reads_never_too_long sections bytes start read_whole.states reads)
+      by_end (Ok (Some line)) ends reads = absurd ends
+      by_end (Ok None) ends reads = let written = read_good bytes read_whole.states reads in inl (written.lists, written.good)
+      by_end (Err (Malformed place)) ends reads = inr (place, record { before = read_whole.states; reads = reads })
+      by_end (Err TooLong) ends reads = absurd (reads_never_too_long sections bytes start read_whole.states reads)
 
 -- where a scan from the place of a fault ends, the line's text and the line, lies behind that place and within the sheet
 pub record Lies (bytes : List ℕ) (place : ℕ) (line : Scanned) : Type 0 where

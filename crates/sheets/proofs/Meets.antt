@@ -11,15 +11,15 @@ use lib.ListN.{length, drop}
 use borrow.Author.Tests.{eqb-true, eqb-false, ltb-false, leb-false, eq-eqb, ne_eqb, lt-ltb, le-ltb, lt-leb}
 use Rattle.sheets.specs.declared.State.{State}
 use Rattle.sheets.specs.declared.Cursor.{Cursor}
-use Rattle.sheets.specs.declared.Next.{Next}
-use Rattle.sheets.specs.declared.Next.TheVariants as Next
+use Rattle.sheets.specs.Reading.{Next, Begins, CountLine, StateLine, IsOver, IsFault, Here, line_of}
+use Rattle.sheets.specs.declared.Fault.TheVariants.{Malformed, TooLong}
+use Rattle.std.specs.Prelude.{Ok, Err, Some, None}
 use Rattle.sheets.specs.declared.Line.{Line}
 use Rattle.sheets.specs.declared.Line.TheVariants.{Count, Told}
 use Rattle.sheets.specs.declared.Digest.{Digest}
 use Rattle.sheets.specs.declared.Digest.TheVariants.{Empty, First, AfterSpace, Second, Bad}
 use Rattle.sheets.specs.declared.Scanned.{Scanned}
 use Rattle.sheets.specs.Grammar.{most_states, decimal, Pair, pair_text}
-use Rattle.sheets.specs.Reading.{Begins, CountLine, StateLine, IsOver, IsFault, Here, line_of}
 use Rattle.sheets.specs.Digests.{takes, whole_line, scans}
 use Rattle.sheets.specs.Lines.{faulty, counted, stated, ended, unended, behind_scan, met}
 use Rattle.sheets.proofs.Texts.{Spells, SpellsPair, Means, pair_means, digest_means, first_read, pair_read}
@@ -67,18 +67,18 @@ module _ (sections : ℕ) (bytes : List ℕ) (cursor : Cursor) where
       stands next =
           simp (eq-eqb cursor.left 0 line.none_left, lt-leb sections cursor.begun line.wanted, le-ltb most_states line.count line.few)
 
-  pub state_met : (state : State) (after : Cursor) → StateLine bytes cursor state after → met sections bytes cursor ≡ Told (Next.State state after)
+  pub state_met : (state : State) (after : Cursor) → StateLine bytes cursor state after → met sections bytes cursor ≡ Told (Ok (Some (record { state = state; after = after })))
   state_met state after line =
       let next : ℕ = cursor.place + suc (length (pair_text line.pair)) in
       met_line (pair_text line.pair) line.begins (endless_pair line.pair)
       ∙ ap (ended sections cursor next) (pair_read line.pair line.writable)
       ∙ stands next
-      ∙ ap₂ (λ (s : State) (a : Cursor). Told (Next.State s a)) (sym line.is_state) (sym line.moves)
+      ∙ ap₂ (λ (s : State) (a : Cursor). Told (Ok (Some (record { state = s; after = a })))) (sym line.is_state) (sym line.moves)
     where
-      stands : (next : ℕ) → stated cursor next line.pair.millikelvin line.pair.pascals ≡ Told (Next.State (record { fluid = cursor.begun - 1; millikelvin = line.pair.millikelvin; pascals = line.pair.pascals }) (record { begun = cursor.begun; left = cursor.left - 1; place = next }))
+      stands : (next : ℕ) → stated cursor next line.pair.millikelvin line.pair.pascals ≡ Told (Ok (Some (record { state = record { fluid = cursor.begun - 1; millikelvin = line.pair.millikelvin; pascals = line.pair.pascals }; after = record { begun = cursor.begun; left = cursor.left - 1; place = next } })))
       stands next = let wanted : 0 < cursor.left = line.wanted in simp (ne_eqb cursor.left 0 (λ e. omega arith))
 
-  pub over_met : IsOver sections bytes cursor → met sections bytes cursor ≡ Told Next.Over
+  pub over_met : IsOver sections bytes cursor → met sections bytes cursor ≡ Told (Ok None)
   over_met over =
       let nothing = over.nothing_follows in
       met_unended (record { all = nothing ∙ sym (ap line_of nothing); is_whole = ap whole_line nothing ∙ sym (ap length nothing) })
@@ -140,7 +140,7 @@ module _ (sections : ℕ) (bytes : List ℕ) (cursor : Cursor) where
       after : Cursor
       after = record { begun = cursor.begun; left = cursor.left - 1; place = cursor.place + suc (length text) }
 
-      left_or_not : (t : Bool) → eqb cursor.left 0 ≡ t → met sections bytes cursor ≡ cond t (faulty cursor.place) (Told (Next.State state after)) → Stands (cond t (faulty cursor.place) (Told (Next.State state after)))
+      left_or_not : (t : Bool) → eqb cursor.left 0 ≡ t → met sections bytes cursor ≡ cond t (faulty cursor.place) (Told (Ok (Some (record { state = state; after = after })))) → Stands (cond t (faulty cursor.place) (Told (Ok (Some (record { state = state; after = after })))))
       left_or_not true e same = fault same
       left_or_not false e same =
           let some_left = eqb-false cursor.left 0 e in
@@ -170,12 +170,12 @@ module _ (sections : ℕ) (bytes : List ℕ) (cursor : Cursor) where
       empty [] none = refl
       empty (byte ∷ l) none = absurd (suc-ne-zero (length l) none)
 
-      begun_or_not : (t : Bool) → ltb cursor.begun sections ≡ t → drop cursor.place bytes ≡ [] → cursor.left ≡ 0 → met sections bytes cursor ≡ cond t (faulty cursor.place) (Told Next.Over) → Stands (cond t (faulty cursor.place) (Told Next.Over))
+      begun_or_not : (t : Bool) → ltb cursor.begun sections ≡ t → drop cursor.place bytes ≡ [] → cursor.left ≡ 0 → met sections bytes cursor ≡ cond t (faulty cursor.place) (Told (Ok None)) → Stands (cond t (faulty cursor.place) (Told (Ok None)))
       begun_or_not true e nothing none same = fault same
       begun_or_not false e nothing none same = record { none_left = none; none_wanted = ltb-false cursor.begun sections e; nothing_follows = nothing }
 
       wanted : Bool → Line
-      wanted t = cond (cond t (ltb cursor.begun sections) true) (faulty cursor.place) (Told Next.Over)
+      wanted t = cond (cond t (ltb cursor.begun sections) true) (faulty cursor.place) (Told (Ok None))
 
       left_or_not : (t : Bool) → eqb cursor.left 0 ≡ t → drop cursor.place bytes ≡ [] → met sections bytes cursor ≡ wanted t → Stands (wanted t)
       left_or_not true e nothing same = begun_or_not (ltb cursor.begun sections) refl nothing (eqb-true cursor.left 0 e) same
@@ -205,14 +205,14 @@ module _ (sections : ℕ) (bytes : List ℕ) (cursor : Cursor) where
 
   -- what comes next without a count line before it is what is met
   pub here_met : (next : Next) → Here sections bytes cursor next → met sections bytes cursor ≡ Told next
-  here_met (Next.State state after) line = state_met state after line
-  here_met Next.Over over = over_met over
-  here_met (Next.Malformed place) fault = of_line (met sections bytes cursor) met_stands
+  here_met (Ok (Some told)) line = state_met told.state told.after line
+  here_met (Ok None) over = over_met over
+  here_met (Err (Malformed place)) fault = of_line (met sections bytes cursor) met_stands
     where
-      of_line : (line : Line) → Stands line → line ≡ Told (Next.Malformed place)
+      of_line : (line : Line) → Stands line → line ≡ Told (Err (Malformed place))
       of_line (Count after) stands = absurd (fault.no_count_line after stands)
-      of_line (Told (Next.State state after)) stands = absurd (fault.no_state_line state after stands)
-      of_line (Told Next.Over) stands = absurd (fault.not_over stands)
-      of_line (Told (Next.Malformed at)) stands = ap (λ (p : ℕ). Told (Next.Malformed p)) (stands.is_place ∙ sym fault.is_place)
-      of_line (Told Next.TooLong) stands = absurd stands
-  here_met Next.TooLong none = absurd none
+      of_line (Told (Ok (Some told))) stands = absurd (fault.no_state_line told.state told.after stands)
+      of_line (Told (Ok None)) stands = absurd (fault.not_over stands)
+      of_line (Told (Err (Malformed at))) stands = ap (λ (p : ℕ). Told (Err (Malformed p))) (stands.is_place ∙ sym fault.is_place)
+      of_line (Told (Err TooLong)) stands = absurd stands
+  here_met (Err TooLong) none = absurd none

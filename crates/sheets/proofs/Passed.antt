@@ -8,10 +8,9 @@ use lib.ListN.{length, length-append}
 use lib.Seq.{append_snoc}
 use Rattle.sheets.specs.declared.State.{State}
 use Rattle.sheets.specs.declared.Cursor.{Cursor}
-use Rattle.sheets.specs.declared.Next.{Next}
-use Rattle.sheets.specs.declared.Next.TheVariants as Next
+use Rattle.sheets.specs.Reading.{Next, start, CountLine, StateLine, Comes, behind_count, here, Reads}
+use Rattle.std.specs.Prelude.{Ok, Some}
 use Rattle.sheets.specs.Grammar.{most_states}
-use Rattle.sheets.specs.Reading.{start, CountLine, StateLine, Comes, behind_count, here, Reads}
 
 -- so many state lines were passed: with those still wanted they are at most the most of each section begun
 pub record Room (sections count : ℕ) (cursor : Cursor) : Type 0 where
@@ -35,14 +34,14 @@ module _ {sections : ℕ} (bytes : List ℕ) where
       let left = ap (λ (c : Cursor). c.left) line.moves in
       record { states = omega (arith, begun, left, room.states, line.wanted); begun = omega (arith, begun, room.begun) }
 
-  comes_room : (count : ℕ) {cursor : Cursor} {state : State} {after : Cursor} → Room sections count cursor → Comes sections bytes cursor (Next.State state after) → Room sections (suc count) after
+  comes_room : (count : ℕ) {cursor : Cursor} {state : State} {after : Cursor} → Room sections count cursor → Comes sections bytes cursor (Ok (Some (record { state = state; after = after }))) → Room sections (suc count) after
   comes_room count {cursor} {state} {after} room (behind_count {after = between} line comes) = comes_room count (count_room count cursor between room line) comes
   comes_room count {cursor} {state} {after} room (here line) = state_room count cursor state after room line
 
   pub none_passed : Passed sections bytes start []
   none_passed = record { goes_on = λ more last reads. reads; room = record { states = omega arith; begun = omega arith } }
 
-  pub one_passed : {cursor : Cursor} (states : List State) (state : State) (after : Cursor) → Passed sections bytes cursor states → Comes sections bytes cursor (Next.State state after) → Passed sections bytes after (states ++ (state ∷ []))
+  pub one_passed : {cursor : Cursor} (states : List State) (state : State) (after : Cursor) → Passed sections bytes cursor states → Comes sections bytes cursor (Ok (Some (record { state = state; after = after }))) → Passed sections bytes after (states ++ (state ∷ []))
   one_passed states state after passed comes =
       let room = comes_room (length states) passed.room comes in
       let long = length-append states (state ∷ []) in

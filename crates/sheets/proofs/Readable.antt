@@ -8,10 +8,10 @@ use lib.ListN.{length, drop, length-append}
 use lib.Seq.{drop-append_seam}
 use Rattle.sheets.specs.declared.State.{State}
 use Rattle.sheets.specs.declared.Cursor.{Cursor}
-use Rattle.sheets.specs.declared.Next.{Next}
-use Rattle.sheets.specs.declared.Next.TheVariants as Next
+use Rattle.sheets.specs.Reading.{Next, start, Begins, CountLine, StateLine, IsOver, Comes, here, Reads, FaultAt}
+use Rattle.sheets.specs.declared.Fault.TheVariants.{Malformed}
+use Rattle.std.specs.Prelude.{Ok, Err, Some, None}
 use Rattle.sheets.specs.Grammar.{line_end, decimal, Pair, pair_text, state_lines, section, sheet, EachWritable, EachSection, Good, of_fluid, states_from}
-use Rattle.sheets.specs.Reading.{start, Begins, CountLine, StateLine, IsOver, Comes, here, Reads, FaultAt}
 use Rattle.sheets.proofs.Splits.{drop_behind}
 use Rattle.sheets.proofs.Walks.{behind}
 use Rattle.sheets.proofs.Written.{count_first, state_first, nothing, none_written}
@@ -57,7 +57,7 @@ module _ (sections : ℕ) (bytes : List ℕ) where
     section_read lists readable [] cursor are_left fit each written comes = readable cursor (sym are_left) fit written comes
     section_read lists readable (pair ∷ pairs) cursor are_left fit each written comes = (
       after,
-      here {next = Next.State state after} line,
+      here {next = Ok (Some (record { state = state; after = after }))} line,
       section_read lists readable pairs after (omega arith) fit each.1
           (drop_behind bytes cursor.place (pair_text pair) (state_lines pairs ++ sheet (lists ++ rest)) splits)
           (subst (λ (c : Cursor). Comes sections bytes c last) (same_cursor (past cursor (pair ∷ pairs) lists) (past after pairs lists) refl refl (omega (arith, long))) comes),
@@ -139,17 +139,17 @@ module _ (sections : ℕ) (bytes : List ℕ) where
         record {
           before = states_from 0 lists;
           reads =
-              reads_to (Next.Malformed (length (sheet lists))) fit
-              (here {next = Next.Malformed (length (sheet lists))}
+              reads_to (Err (Malformed (length (sheet lists)))) fit
+              (here {next = Err (Malformed (length (sheet lists)))}
               (record { no_count_line = no_count; no_state_line = λ state after line. omega (arith, line.wanted); not_over = not_over; is_place = sym ends_at }));
         }
 
-  pub good_read : (lists : List (List Pair)) → Good sections bytes lists → Reads sections bytes start (states_from 0 lists) Next.Over
+  pub good_read : (lists : List (List Pair)) → Good sections bytes lists → Reads sections bytes start (states_from 0 lists) (Ok None)
   good_read lists good =
       let written : bytes ≡ sheet (lists ++ []) = good.written ∙ ap sheet (sym (append-nil lists)) in
       let over : IsOver sections bytes (past start [] lists) =
       record { none_left = refl; none_wanted = omega (arith, good.has_sections); nothing_follows = follows lists [] good.writable written ∙ none_written } in
-      reads_to lists [] good.writable written Next.Over (omega (arith, good.has_sections)) (here {next = Next.Over} over)
+      reads_to lists [] good.writable written (Ok None) (omega (arith, good.has_sections)) (here {next = Ok None} over)
 
   -- a reader of fewer sections refuses the count line behind them
   pub fault_at_next_count : (lists : List (List Pair)) (pairs : List Pair) (rest : List (List Pair)) → EachSection lists → length lists ≡ sections → bytes ≡ sheet (lists ++ (pairs ∷ rest)) → FaultAt sections bytes (length (sheet lists))

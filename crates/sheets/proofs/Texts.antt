@@ -9,8 +9,7 @@ use lib.Dec.{eqb, ltb}
 use borrow.Author.Tests.{eqb-true, ltb-true, ltb-false, ne_eqb, lt-ltb}
 use Rattle.sheets.specs.declared.Digest.{Digest}
 use Rattle.sheets.specs.declared.Digest.TheVariants.{Empty, First, AfterSpace, Second, Bad}
-use Rattle.sheets.specs.declared.Number.{Number}
-use Rattle.sheets.specs.declared.Number.TheVariants.{Is, None}
+use Rattle.std.specs.Prelude.{Option, Some, None}
 use Rattle.sheets.specs.Grammar.{eleven_digits, space, digit, behind, digits, decimal, Writable, Pair, WritablePair, pair_text}
 use Rattle.sheets.specs.Digests.{ten_digits, opens, grows, first_of, second_of, takes}
 use Rattle.sheets.proofs.Digits.{Told, opens_told, opens_digit, GrownTold, grows_told, grows_digit, room, decimal_digit, decimal_next}
@@ -44,14 +43,14 @@ pair_means text first second means =
 -- What holds of the digest that is made of a number, if it holds where there is none and where there is one: a number's first digit, and its
 -- next.
 module _ (byte : ℕ) where
-  opened : (read : Number) → Told read byte → (Holds : Digest → Type 0) → (put : Number → Digest) → Holds (put None) → ((number : ℕ) → Writable number → byte ∷ [] ≡ decimal number → Holds (put (Is number))) → Holds (put read)
+  opened : (read : Option ℕ) → Told read byte → (Holds : Digest → Type 0) → (put : Option ℕ → Digest) → Holds (put None) → ((number : ℕ) → Writable number → byte ∷ [] ≡ decimal number → Holds (put (Some number))) → Holds (put read)
   opened None told Holds put bad good = bad
-  opened (Is value) told Holds put bad good =
+  opened (Some value) told Holds put bad good =
       good value (omega (arith, told.small)) (ap (λ (b : ℕ). b ∷ []) told.is_byte ∙ sym (decimal_digit value told.small))
 
-  grown : (number : ℕ) (read : Number) → GrownTold read number byte → (Holds : Digest → Type 0) → (put : Number → Digest) → Holds (put None) → ((next : ℕ) → Writable next → decimal number ++ (byte ∷ []) ≡ decimal next → Holds (put (Is next))) → Holds (put read)
+  grown : (number : ℕ) (read : Option ℕ) → GrownTold read number byte → (Holds : Digest → Type 0) → (put : Option ℕ → Digest) → Holds (put None) → ((next : ℕ) → Writable next → decimal number ++ (byte ∷ []) ≡ decimal next → Holds (put (Some next))) → Holds (put read)
   grown number None told Holds put bad good = bad
-  grown number (Is next) told Holds put bad good =
+  grown number (Some next) told Holds put bad good =
       good next (omega (arith, told.has_room, told.is_next, told.is_digit.small))
       (ap (λ (b : ℕ). decimal number ++ (b ∷ [])) told.is_digit.is_byte
       ∙ sym (decimal_next number told.value told.not_zero told.has_room told.is_digit.small)

@@ -9,7 +9,7 @@ use Rattle.sheets.specs.declared.Cursor.{Cursor}
 use Rattle.sheets.specs.declared.Digest.{Digest}
 use Rattle.sheets.specs.declared.Scanned.{Scanned}
 use Rattle.sheets.specs.declared.Line.{Line}
-use Rattle.sheets.specs.declared.Next.TheVariants as Next
+use Rattle.std.specs.Prelude.{Ok, None}
 use Rattle.sheets.specs.Grammar.{decimal, Writable, Pair, Good, states_from}
 use Rattle.sheets.specs.Numerals.{Numeral, value_of}
 use Rattle.sheets.specs.Reading.{start, Reads}
@@ -36,7 +36,7 @@ written_is_writable number text written = omega (arith, (numeral_is_decimal text
 
 module _ {sections : ℕ} (bytes : List ℕ) where
   -- What lists write, a walk of the cursor from the start gives back: one state line after another, and then the end.
-  pub good_sheet_reads_as_written : (lists : List (List Pair)) → Good sections bytes lists → Reads sections bytes start (states_from 0 lists) Next.Over
+  pub good_sheet_reads_as_written : (lists : List (List Pair)) → Good sections bytes lists → Reads sections bytes start (states_from 0 lists) (Ok None)
   good_sheet_reads_as_written = good_read sections bytes
 
   -- They are the only lists that write to it.

@@ -1,25 +1,26 @@
 -- What comes next from a cursor, and how a reading goes on from there: it is determined, it always is, and each state line lies farther on in
 -- the sheet. Assumes nothing.
-use mathlib.Core.Path.{◌≡◌, refl, ap, subst}
+use mathlib.Core.Path.{◌≡◌, refl, sym, ap, subst}
 use mathlib.Core.List.{List, [], ◌∷◌}
 use Prim.Native.Nat.{ℕ, suc, ◌+◌, ◌≤◌, ◌<◌}
 use native.Mathlib.Omega.{arith}
 use lib.ListN.{length}
 use Rattle.sheets.specs.declared.State.{State}
 use Rattle.sheets.specs.declared.Cursor.{Cursor}
-use Rattle.sheets.specs.declared.Next.{Next}
-use Rattle.sheets.specs.declared.Next.TheVariants as Next
+use Rattle.sheets.specs.declared.StateLine as Told
+use Rattle.sheets.specs.declared.Fault.TheVariants.{Malformed, TooLong}
+use Rattle.std.specs.Prelude.{Ok, Err, Some, None}
 use Rattle.sheets.specs.Grammar.{decimal, pair_text}
-use Rattle.sheets.specs.Reading.{Begins, CountLine, StateLine, Here, Comes, behind_count, here, Reads}
+use Rattle.sheets.specs.Reading.{Next, Begins, CountLine, StateLine, Here, Comes, behind_count, here, Reads}
 use Rattle.sheets.proofs.Splits.{ends_inside}
 use Rattle.sheets.proofs.Meets.{count_met, here_met}
 
 -- a refusal or the end, behind the last state line
 abbrev pub Ends : Next → Type 0
-Ends (Next.State state after) = ⊥
-Ends Next.Over = Unit {0}
-Ends (Next.Malformed place) = Unit {0}
-Ends Next.TooLong = Unit {0}
+Ends (Ok (Some line)) = ⊥
+Ends (Ok None) = Unit {0}
+Ends (Err (Malformed place)) = Unit {0}
+Ends (Err TooLong) = Unit {0}
 
 pub record Same (states states' : List State) (last last' : Next) : Type 0 where
   pub same_states : states ≡ states'
@@ -54,14 +55,14 @@ module _ {sections : ℕ} (bytes : List ℕ) where
   comes_determined {cursor} {next} {next'} (here one) (behind_count {after = after} line comes) = absurd (count_not_here cursor after next line one)
   comes_determined {cursor} {next} {next'} (here one) (here other) = cc (here_met sections bytes cursor next one, here_met sections bytes cursor next' other)
 
-  pub never_too_long : {cursor : Cursor} → Comes sections bytes cursor Next.TooLong → ⊥
+  pub never_too_long : {cursor : Cursor} → Comes sections bytes cursor (Err TooLong) → ⊥
   never_too_long (behind_count line comes) = never_too_long comes
   never_too_long (here none) = none
 
   count_moves : (cursor after : Cursor) → CountLine sections bytes cursor after → Moves bytes cursor after
   count_moves cursor after line = moves_behind bytes cursor after (decimal line.count) line.begins (ap (λ (c : Cursor). c.place) line.moves)
 
-  pub comes_moves : {cursor : Cursor} {state : State} {after : Cursor} → Comes sections bytes cursor (Next.State state after) → Moves bytes cursor after
+  pub comes_moves : {cursor : Cursor} {state : State} {after : Cursor} → Comes sections bytes cursor (Ok (Some (record { state = state; after = after }))) → Moves bytes cursor after
   comes_moves {cursor} {state} {after} (behind_count {after = between} line comes) =
       let first = count_moves cursor between line in
       let second = comes_moves comes in
@@ -69,7 +70,7 @@ module _ {sections : ℕ} (bytes : List ℕ) where
   comes_moves {cursor} {state} {after} (here line) = state_moves bytes cursor state after line
 
   -- a fault lies within the sheet, or at its end
-  pub fault_inside : {cursor : Cursor} {place : ℕ} → cursor.place ≤ length bytes → Comes sections bytes cursor (Next.Malformed place) → place ≤ length bytes
+  pub fault_inside : {cursor : Cursor} {place : ℕ} → cursor.place ≤ length bytes → Comes sections bytes cursor (Err (Malformed place)) → place ≤ length bytes
   fault_inside {cursor} inside (behind_count {after = after} line comes) = fault_inside (count_moves cursor after line).inside comes
   fault_inside {cursor} inside (here fault) = omega (arith, fault.is_place)
 
@@ -78,11 +79,11 @@ module _ {sections : ℕ} (bytes : List ℕ) where
   behind cursor after (state ∷ states) last line reads = (reads.0, behind_count line reads.1, reads.2)
 
 module _ (sections : ℕ) (bytes : List ℕ) where
-  pub reads_never_too_long : (cursor : Cursor) (states : List State) → Reads sections bytes cursor states Next.TooLong → ⊥
+  pub reads_never_too_long : (cursor : Cursor) (states : List State) → Reads sections bytes cursor states (Err TooLong) → ⊥
   reads_never_too_long cursor [] reads = never_too_long bytes reads
   reads_never_too_long cursor (state ∷ states) reads = reads_never_too_long reads.0 states reads.2
 
-  pub reading_fault_inside : (cursor : Cursor) (states : List State) (place : ℕ) → cursor.place ≤ length bytes → Reads sections bytes cursor states (Next.Malformed place) → place ≤ length bytes
+  pub reading_fault_inside : (cursor : Cursor) (states : List State) (place : ℕ) → cursor.place ≤ length bytes → Reads sections bytes cursor states (Err (Malformed place)) → place ≤ length bytes
   reading_fault_inside cursor [] place inside reads = fault_inside bytes inside reads
   reading_fault_inside cursor (state ∷ states) place inside reads =
       reading_fault_inside reads.0 states place (comes_moves bytes reads.1).inside reads.2
@@ -94,6 +95,8 @@ module _ (sections : ℕ) (bytes : List ℕ) where
   reads_determined cursor (state ∷ states) [] last last' ends ends' reads reads' = absurd (subst Ends (comes_determined bytes reads' reads.1) ends')
   reads_determined cursor (state ∷ states) (state' ∷ states') last last' ends ends' reads reads' =
       let same = comes_determined bytes reads.1 reads'.1 in
-      let back : reads'.0 ≡ reads.0 = cc in
+      let same_line : ◌≡◌ {A = Told.StateLine} (record { state = state; after = reads.0 }) (record { state = state'; after = reads'.0 }) = cc in
+      let same_state : state ≡ state' = ap (λ (line : Told.StateLine). line.state) same_line in
+      let back : reads'.0 ≡ reads.0 = sym (ap (λ (line : Told.StateLine). line.after) same_line) in
       let rest = reads_determined reads.0 states states' last last' ends ends' reads.2 (subst (λ (c : Cursor). Reads sections bytes c states' last') back reads'.2) in
-      record { same_states = cc; same_last = rest.same_last }
+      record { same_states = cc (same_state, rest.same_states); same_last = rest.same_last }

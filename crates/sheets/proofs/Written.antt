@@ -9,10 +9,9 @@ use lib.ListN.{length, drop, length-append}
 use lib.Seq.{append_snoc}
 use Rattle.sheets.specs.declared.State.{State}
 use Rattle.sheets.specs.declared.Cursor.{Cursor}
-use Rattle.sheets.specs.declared.Next.{Next}
-use Rattle.sheets.specs.declared.Next.TheVariants as Next
-use Rattle.sheets.specs.Grammar.{most_states, line_end, decimal, Pair, pair_text, line, state_lines, section, sheet, EachWritable, EachSection, Good, of_fluid, states_from, sum_of_counts}
 use Rattle.sheets.specs.Reading.{start, CountLine, StateLine, IsOver, Comes, behind_count, here, Reads}
+use Rattle.std.specs.Prelude.{Ok, Some, None}
+use Rattle.sheets.specs.Grammar.{most_states, line_end, decimal, Pair, pair_text, line, state_lines, section, sheet, EachWritable, EachSection, Good, of_fluid, states_from, sum_of_counts}
 use Rattle.sheets.proofs.Splits.{drop_behind}
 
 -- a count line before its state lines and the sections to come
@@ -116,20 +115,20 @@ module _ {sections : ℕ} (bytes : List ℕ) where
         are_states = refl;
       }
 
-  comes_over : {cursor : Cursor} → Comes sections bytes cursor Next.Over → Lists sections bytes cursor []
+  comes_over : {cursor : Cursor} → Comes sections bytes cursor (Ok None) → Lists sections bytes cursor []
   comes_over {cursor} (behind_count {after = after} line comes) = count_lists cursor after [] line (comes_over comes)
   comes_over {cursor} (here over) = over_lists cursor over
 
-  comes_state : {cursor : Cursor} {state : State} {after : Cursor} (states : List State) → Comes sections bytes cursor (Next.State state after) → Lists sections bytes after states → Lists sections bytes cursor (state ∷ states)
+  comes_state : {cursor : Cursor} {state : State} {after : Cursor} (states : List State) → Comes sections bytes cursor (Ok (Some (record { state = state; after = after }))) → Lists sections bytes after states → Lists sections bytes cursor (state ∷ states)
   comes_state {cursor} {state} {after} states (behind_count {after = between} line comes) lists =
       count_lists cursor between (state ∷ states) line (comes_state states comes lists)
   comes_state {cursor} {state} {after} states (here line) lists = state_lists cursor state after states line lists
 
-  pub reads_lists : (cursor : Cursor) (states : List State) → Reads sections bytes cursor states Next.Over → Lists sections bytes cursor states
+  pub reads_lists : (cursor : Cursor) (states : List State) → Reads sections bytes cursor states (Ok None) → Lists sections bytes cursor states
   reads_lists cursor [] reads = comes_over reads
   reads_lists cursor (state ∷ states) reads = comes_state states reads.1 (reads_lists reads.0 states reads.2)
 
-  pub read_good : (states : List State) → Reads sections bytes start states Next.Over → Written sections bytes states
+  pub read_good : (states : List State) → Reads sections bytes start states (Ok None) → Written sections bytes states
   read_good states reads = none_left whole.pairs whole.are_left whole.written whole.are_states
     where
       whole : Lists sections bytes start states

@@ -1,10 +1,8 @@
 -- What a line's bytes come to, taken one at a time: the steps of the crate `digests`. What a line is, is not said by this file.
-use Rattle.std.specs.Prelude.{Bool, true, false, cond, ℕ, suc, ◌+◌, ◌-◌, ◌*◌, ltb, leb, eqb, length}
+use Rattle.std.specs.Prelude.{Bool, true, false, cond, ℕ, suc, ◌+◌, ◌-◌, ◌*◌, ltb, leb, eqb, length, Option, Some, None}
 use mathlib.Core.List.{List, [], ◌∷◌, foldl}
 use Rattle.sheets.specs.declared.Digest.{Digest}
 use Rattle.sheets.specs.declared.Digest.TheVariants.{Empty, First, AfterSpace, Second, Bad}
-use Rattle.sheets.specs.declared.Number.{Number}
-use Rattle.sheets.specs.declared.Number.TheVariants.{Is, None}
 use Rattle.sheets.specs.declared.Scanned.{Scanned}
 use Rattle.sheets.specs.Grammar.{line_end, space}
 use Rattle.sheets.specs.Reading.{line_of}
@@ -14,23 +12,23 @@ abbrev pub ten_digits : ℕ
 ten_digits = 1000000000
 
 -- a digit's value, or no number
-abbrev pub opens : (byte : ℕ) → Number
-opens byte = cond (ltb byte 48) None (cond (ltb 57 byte) None (Is (byte - 48)))
+abbrev pub opens : (byte : ℕ) → Option ℕ
+opens byte = cond (ltb byte 48) None (cond (ltb 57 byte) None (Some (byte - 48)))
 
-abbrev pub behind_digits : (number : ℕ) → Number → Number
+abbrev pub behind_digits : (number : ℕ) → Option ℕ → Option ℕ
 behind_digits number None = None
-behind_digits number (Is digit) = Is (10 * number + digit)
+behind_digits number (Some digit) = Some (10 * number + digit)
 
-abbrev pub grows : (number byte : ℕ) → Number
+abbrev pub grows : (number byte : ℕ) → Option ℕ
 grows number byte = cond (eqb number 0) None (cond (leb ten_digits number) None (behind_digits number (opens byte)))
 
-abbrev pub first_of : Number → Digest
+abbrev pub first_of : Option ℕ → Digest
 first_of None = Bad
-first_of (Is number) = First number
+first_of (Some number) = First number
 
-abbrev pub second_of : (first : ℕ) → Number → Digest
+abbrev pub second_of : (first : ℕ) → Option ℕ → Digest
 second_of first None = Bad
-second_of first (Is number) = Second first number
+second_of first (Some number) = Second first number
 
 abbrev pub takes : Digest → (byte : ℕ) → Digest
 takes Empty byte = first_of (opens byte)

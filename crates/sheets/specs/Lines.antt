@@ -1,8 +1,7 @@
 -- What is met where a cursor stands: the steps of the crate `lines`. Which line may stand there is not said by this file.
-use Rattle.std.specs.Prelude.{Bool, true, cond, List, ℕ, suc, ◌-◌, ltb, leb, eqb, drop}
+use Rattle.std.specs.Prelude.{Bool, true, cond, List, ℕ, suc, ◌-◌, ltb, leb, eqb, drop, Ok, Err, Some, None}
 use Rattle.sheets.specs.declared.Cursor.{Cursor}
-use Rattle.sheets.specs.declared.Next.{Next}
-use Rattle.sheets.specs.declared.Next.TheVariants as Next
+use Rattle.sheets.specs.declared.Fault.TheVariants.{Malformed}
 use Rattle.sheets.specs.declared.Line.{Line}
 use Rattle.sheets.specs.declared.Line.TheVariants.{Count, Told}
 use Rattle.sheets.specs.declared.Digest.{Digest}
@@ -12,15 +11,19 @@ use Rattle.sheets.specs.Grammar.{most_states}
 use Rattle.sheets.specs.Digests.{scans}
 
 abbrev pub faulty : (place : ℕ) → Line
-faulty place = Told (Next.Malformed place)
+faulty place = Told (Err (Malformed place))
 
 abbrev pub stated : Cursor → (next millikelvin pascals : ℕ) → Line
 stated cursor next millikelvin pascals =
     cond (eqb cursor.left 0)
     (faulty cursor.place)
-    (Told (Next.State
-    (record { fluid = cursor.begun - 1; millikelvin = millikelvin; pascals = pascals })
-    (record { begun = cursor.begun; left = cursor.left - 1; place = next })))
+    (Told
+    (Ok
+    (Some
+    (record {
+      state = record { fluid = cursor.begun - 1; millikelvin = millikelvin; pascals = pascals };
+      after = record { begun = cursor.begun; left = cursor.left - 1; place = next };
+    }))))
 
 -- in a sheet of so many sections
 module _ (sections : ℕ) where
@@ -46,7 +49,7 @@ module _ (sections : ℕ) where
   wants_line cursor = cond (eqb cursor.left 0) (ltb cursor.begun sections) true
 
   abbrev pub unended : Cursor → (end : ℕ) → Line
-  unended cursor end = cond (ltb cursor.place end) (faulty cursor.place) (cond (wants_line cursor) (faulty cursor.place) (Told Next.Over))
+  unended cursor end = cond (ltb cursor.place end) (faulty cursor.place) (cond (wants_line cursor) (faulty cursor.place) (Told (Ok None)))
 
   abbrev pub behind_scan : Cursor → Scanned → Line
   behind_scan cursor line = cond (ltb line.end line.next) (ended cursor line.next line.digest) (unended cursor line.end)

@@ -1,11 +1,16 @@
 -- docs/RULES.md, "Sheets" and "A sheet walked": a sheet read line by line, from any cursor on. The line that begins where the cursor stands either
 -- may stand there, or the sheet is over, or nothing that begins there may stand there: then that is the place of the fault.
-use Rattle.std.specs.Prelude.{◌≡◌, List, [], ◌∷◌, ◌++◌, Bool, true, false, ℕ, suc, ◌+◌, ◌-◌, ◌≤◌, ◌<◌, eqb, length, drop}
+use Rattle.std.specs.Prelude.{◌≡◌, List, [], ◌∷◌, ◌++◌, Bool, true, false, ℕ, suc, ◌+◌, ◌-◌, ◌≤◌, ◌<◌, eqb, length, drop, Option, Some, None, Result, Ok, Err}
 use Rattle.sheets.specs.declared.State.{State}
 use Rattle.sheets.specs.declared.Cursor.{Cursor}
-use Rattle.sheets.specs.declared.Next.{Next}
-use Rattle.sheets.specs.declared.Next.TheVariants as Next
+use Rattle.sheets.specs.declared.Fault.{Fault}
+use Rattle.sheets.specs.declared.Fault.TheVariants.{Malformed, TooLong}
+use Rattle.sheets.specs.declared.StateLine as Declared
 use Rattle.sheets.specs.Grammar.{most_states, line_end, decimal, Pair, WritablePair, pair_text}
+
+-- what comes next: a state line and the cursor behind it, the end of a good sheet, or a fault
+abbrev pub Next : Type 0
+Next = Result (Option Declared.StateLine) Fault
 
 abbrev pub start : Cursor
 start = record { begun = 0; left = 0; place = 0 }
@@ -49,10 +54,10 @@ module _ (sections : ℕ) (bytes : List ℕ) where
     pub is_place : place ≡ cursor.place
 
   abbrev pub Here : (cursor : Cursor) → Next → Type 0
-  Here cursor (Next.State state after) = StateLine bytes cursor state after
-  Here cursor Next.Over = IsOver cursor
-  Here cursor (Next.Malformed place) = IsFault cursor place
-  Here cursor Next.TooLong = ⊥
+  Here cursor (Ok (Some line)) = StateLine bytes cursor line.state line.after
+  Here cursor (Ok None) = IsOver cursor
+  Here cursor (Err (Malformed place)) = IsFault cursor place
+  Here cursor (Err TooLong) = ⊥
 
   -- what comes next, behind any count lines
   pub data Comes : (cursor : Cursor) (next : Next) → Type 0 where
@@ -62,12 +67,12 @@ module _ (sections : ℕ) (bytes : List ℕ) where
   -- the reading from a cursor on: state lines, one after another, and what comes behind the last of them
   abbrev pub Reads : (cursor : Cursor) → List State → (last : Next) → Type 0
   Reads cursor [] last = Comes cursor last
-  Reads cursor (state ∷ states) last = (after : Cursor) × Comes cursor (Next.State state after) × Reads after states last
+  Reads cursor (state ∷ states) last = (after : Cursor) × Comes cursor (Ok (Some (record { state = state; after = after }))) × Reads after states last
 
   -- read line by line from the start, the sheet has a fault at this place
   pub record FaultAt (place : ℕ) : Type 0 where
     pub before : List State
-    pub reads : Reads start before (Next.Malformed place)
+    pub reads : Reads start before (Err (Malformed place))
 
 abbrev pub up_to : Bool → (byte : ℕ) → List ℕ → List ℕ
 up_to true byte others = []

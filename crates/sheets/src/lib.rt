@@ -21,21 +21,22 @@ pub struct Cursor {
     pub place: usize,
 }
 
-// What comes next: a state line and the cursor behind it, the end of a good sheet, or a refusal.
-#[derive(Clone, Copy)]
-pub enum Next {
-    State { state: State, after: Cursor },
-    Over,
+// Why bytes are no good sheet: a line that may not stand where it begins, or more bytes than a sheet may have.
+#[derive(Clone, Copy, Debug, PartialEq, Eq)]
+pub enum Fault {
     Malformed { place: usize },
     TooLong,
 }
 
-// A number with one digit more, or no number.
+// A state line, and the cursor behind it.
 #[derive(Clone, Copy)]
-pub enum Number {
-    Is(u64),
-    None,
+pub struct StateLine {
+    pub state: State,
+    pub after: Cursor,
 }
+
+// What comes next: a state line, the end of a good sheet, or the sheet's fault.
+pub type Next = Result<Option<StateLine>, Fault>;
 
 // What a line's bytes come to, taken one at a time. Nothing yet; one number, and so a count line; that and
 // its space; two numbers, and so a state line; or bytes that no line of a sheet begins with.
@@ -57,7 +58,8 @@ pub struct Scanned {
     pub next: usize,
 }
 
-// A count line only moves the cursor; anything else is what comes next.
+// A count line only moves the cursor; anything else is what comes next. Neither is a failure of the other, so it is no
+// Result, and no ControlFlow: `Continue` and `Break` would not say which line was met.
 #[derive(Clone, Copy)]
 pub enum Line {
     Count(Cursor),

@@ -4,13 +4,15 @@ use Prim.Native.Nat.{ℕ, ◌+◌, ◌≤◌}
 use native.Mathlib.Nat.{mul-le-mul_left}
 use native.Mathlib.Omega.{arith}
 use Rattle.numbers.proofs.Squares.{twice_product}
+use Rattle.std.specs.Prelude.{Result, Ok, Err}
 use Rattle.cubic.specs.Cubic.{N, GasRoot}
 use Rattle.cubic.specs.Promise.{largest_a}
 use Rattle.cubic.specs.Sides.{plus, minus, PositiveFrom}
 use Rattle.cubic.proofs.Roots.{gas_root}
 use Rattle.cubic.proofs.Theorems.{gas_root_unique, crossing_from_b, crossing_on_grid}
 use Rattle.slow_engine.specs.declared.Walked.{Walked}
-use Rattle.slow_engine.specs.declared.Walked.TheVariants.{ToRoot, CutShort, OutOfBounds}
+use Rattle.slow_engine.specs.declared.WalkError.{WalkError}
+use Rattle.slow_engine.specs.declared.WalkError.TheVariants.{CutShort, OutOfBounds}
 use Rattle.slow_engine.specs.Promise.{way, Walks}
 
 -- the count and the place together are N + b + 1: nothing is lost in the difference
@@ -27,15 +29,15 @@ unfolding plus minus PositiveFrom
 no_fewer_suffice = (gas_root largest_a 1 (omega arith) (λ y above. omega (arith, mul-le-mul_left y (twice_product y 50000))), refl)
 
 module _ (a b limit : ℕ) where
-  pub walk_determined : (r s : Walked) → Walks a b limit r → Walks a b limit s → r ≡ s
-  walk_determined (ToRoot gas values) (ToRoot gas' values') p q =
-      let same : gas ≡ gas' = gas_root_unique a b p.is_gas q.is_gas in
-      ap₂ ToRoot same (p.is_way ∙ ap (way b) same ∙ sym q.is_way)
-  walk_determined (ToRoot gas values) (CutShort values') p q = absurd (omega (arith, p.suffices, q.too_few gas p.is_gas))
-  walk_determined (ToRoot gas values) OutOfBounds p q = absurd (q p.within)
-  walk_determined (CutShort values) (ToRoot gas values') p q = absurd (omega (arith, q.suffices, p.too_few gas q.is_gas))
-  walk_determined (CutShort values) (CutShort values') p q = ap CutShort (p.is_limit ∙ sym q.is_limit)
-  walk_determined (CutShort values) OutOfBounds p q = absurd (q p.within)
-  walk_determined OutOfBounds (ToRoot gas values) p q = absurd (p q.within)
-  walk_determined OutOfBounds (CutShort values) p q = absurd (p q.within)
-  walk_determined OutOfBounds OutOfBounds p q = refl
+  pub walk_determined : (r s : Result Walked WalkError) → Walks a b limit r → Walks a b limit s → r ≡ s
+  walk_determined (Ok walk) (Ok other) p q =
+      let same : walk.gas ≡ other.gas = gas_root_unique a b p.is_gas q.is_gas in
+      ap₂ (λ gas values. Ok (record { gas = gas; values = values })) same (p.is_way ∙ ap (way b) same ∙ sym q.is_way)
+  walk_determined (Ok walk) (Err (CutShort values)) p q = absurd (omega (arith, p.suffices, q.too_few walk.gas p.is_gas))
+  walk_determined (Ok walk) (Err OutOfBounds) p q = absurd (q p.within)
+  walk_determined (Err (CutShort values)) (Ok walk) p q = absurd (omega (arith, q.suffices, p.too_few walk.gas q.is_gas))
+  walk_determined (Err (CutShort values)) (Err (CutShort values')) p q = ap (λ n. Err (CutShort n)) (p.is_limit ∙ sym q.is_limit)
+  walk_determined (Err (CutShort values)) (Err OutOfBounds) p q = absurd (q p.within)
+  walk_determined (Err OutOfBounds) (Ok walk) p q = absurd (p q.within)
+  walk_determined (Err OutOfBounds) (Err (CutShort values)) p q = absurd (p q.within)
+  walk_determined (Err OutOfBounds) (Err OutOfBounds) p q = refl

@@ -3,7 +3,7 @@ use mathlib.Core.Path.{◌≡◌}
 use Prim.Native.Nat.{ℕ, ◌+◌, ◌-◌, ◌*◌, ◌≤◌, ◌<◌}
 use native.Mathlib.Nat.{lt_of_not-le, mul-le-mul}
 use native.Mathlib.Omega.{arith}
-use Rattle.squares.specs.Inside.{ForOneDigit, NextDigit, product}
+use Rattle.squares.specs.Inside.{NextDigit, product}
 
 rises : (root : ℕ) {k m : ℕ} → k ≤ m → product root k ≤ product root m
 rises root {k} {m} less =
@@ -18,9 +18,6 @@ pub next_digit : (root left digit : ℕ) → product root digit ≤ left → lef
 next_digit root left digit fits too_large =
     record { fits = fits; largest = λ k fits. omega (arith, below root left k (digit + 1) fits too_large) }
 
-pub is_digit : {root left digit : ℕ} → ForOneDigit root left → NextDigit root left digit → digit ≤ 9
-is_digit {root} {left} {digit} asked next = omega (arith, below root left digit 10 next.fits asked.below_ten)
-
 -- Of the digits below `tried` those up to `last` fit and the others are too large; for each of these one is taken off 9.
 pub record Counted (root left tried digit last : ℕ) : Type 0 where
   pub to : tried ≤ 10
@@ -29,38 +26,25 @@ pub record Counted (root left tried digit last : ℕ) : Type 0 where
   pub fits : product root last ≤ left
   pub largest : (k : ℕ) → k < tried → product root k ≤ left → k ≤ last
 
-module _ {root left : ℕ} where
-  -- 0 fits in any case
-  pub none_tried : {digit : ℕ} → digit ≡ 9 → Counted root left 1 digit 0
-  none_tried nine = record { to = omega arith; under = omega arith; count = omega arith; fits = omega arith; largest = λ k few fits. omega arith }
+module _ {root left tried digit last : ℕ} (counted : Counted root left tried digit last) (more : tried < 10) where
+  pub one_too_large : left < product root tried → Counted root left (tried + 1) (digit - 1) last
+  one_too_large too_large = record {
+    to = omega arith;
+    under = omega (arith, counted.under);
+    count = omega (arith, counted.under, counted.count);
+    fits = counted.fits;
+    largest = λ k few fits. counted.largest k (below root left k tried fits too_large) fits;
+  }
 
-  module _ {tried digit last : ℕ} (counted : Counted root left tried digit last) (more : tried < 10) where
-    pub one_too_large : left < product root tried → Counted root left (tried + 1) (digit - 1) last
-    one_too_large too_large = record {
-      to = omega arith;
-      under = omega (arith, counted.under);
-      count = omega (arith, counted.under, counted.count);
-      fits = counted.fits;
-      largest = λ k few fits. counted.largest k (below root left k tried fits too_large) fits;
-    }
-
-    -- each digit below one that fits does too, so that none has been taken off
-    pub one_fits : product root tried ≤ left → Counted root left (tried + 1) digit tried
-    one_fits fits =
-        let before : product root (tried - 1) ≤ left = omega (arith, rises root {k = tried - 1} {m = tried} (omega arith)) in
-        let at_last : tried - 1 ≤ last = counted.largest (tried - 1) (omega (arith, counted.under)) before in
-        record {
-          to = omega arith;
-          under = omega arith;
-          count = omega (arith, counted.under, counted.count, at_last);
-          fits = fits;
-          largest = λ k few fits. omega arith;
-        }
-
-  pub all_tried : {tried digit last : ℕ} → ForOneDigit root left → Counted root left tried digit last → 10 ≤ tried → NextDigit root left digit
-  all_tried {tried} {digit} {last} asked counted all =
-      let same : last ≡ digit = omega (arith, counted.to, counted.count) in
+  -- each digit below one that fits does too, so that none has been taken off
+  pub one_fits : product root tried ≤ left → Counted root left (tried + 1) digit tried
+  one_fits fits =
+      let before : product root (tried - 1) ≤ left = omega (arith, rises root {k = tried - 1} {m = tried} (omega arith)) in
+      let at_last : tried - 1 ≤ last = counted.largest (tried - 1) (omega (arith, counted.under)) before in
       record {
-        fits = rw same at counted.fits;
-        largest = λ k fits. omega (arith, same, counted.largest k (omega (arith, below root left k 10 fits asked.below_ten)) fits);
+        to = omega arith;
+        under = omega arith;
+        count = omega (arith, counted.under, counted.count, at_last);
+        fits = fits;
+        largest = λ k few fits. omega arith;
       }

@@ -1,26 +1,13 @@
 -- Why the recursion is right: with each pair of n's digits the root gets a digit more, and stays the square root of the pairs taken. Assumes
 -- nothing.
-use mathlib.Core.Path.{◌≡◌, refl}
-use mathlib.Core.List.{List, [], ◌∷◌}
-use Prim.Native.Nat.{ℕ, zero, suc, ◌+◌, ◌-◌, ◌*◌, ◌/◌, ◌^◌, ◌≤◌, ◌<◌}
+use mathlib.Core.Path.{◌≡◌}
+use Prim.Native.Nat.{ℕ, ◌+◌, ◌-◌, ◌*◌, ◌/◌, ◌^◌, ◌≤◌, ◌<◌}
 use native.Mathlib.Nat.{lt_of_not-le, div-le_self, div-one, div-div-eq-div-mul}
 use native.Mathlib.Omega.{arith}
-use lib.ListN.{get_or}
 use lib.Pow.{pow-add}
 use Rattle.squares.specs.SquareRoot.{SquareRoot}
 use Rattle.squares.specs.Inside.{AfterPairs, ForOneDigit, NextDigit, all_pairs, largest_root, product}
 use Rattle.squares.proofs.Squares.{root_below, square_root, next_square}
-
-abbrev pub units : List ℕ
-units = 100 ^ 0 ∷ 100 ^ 1 ∷ 100 ^ 2 ∷ 100 ^ 3 ∷ 100 ^ 4 ∷ []
-
-pub unit_at : (pairs : ℕ) → pairs < all_pairs → get_or units pairs 0 ≡ 100 ^ pairs
-unit_at zero few = refl
-unit_at (suc zero) few = refl
-unit_at (suc (suc zero)) few = refl
-unit_at (suc (suc (suc zero))) few = refl
-unit_at (suc (suc (suc (suc zero)))) few = refl
-unit_at (suc (suc (suc (suc (suc pairs))))) few = omega arith
 
 -- before a pair is taken
 pub before_pairs : (n : ℕ) → n < 100 ^ all_pairs → AfterPairs n all_pairs 0

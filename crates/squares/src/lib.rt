@@ -87,7 +87,8 @@ fn first_root(pair: u64) -> u64
     6
 }
 
-// The root of the pairs up to the next one, from that of the pairs taken so far.
+// The root of the pairs up to the next one, from that of the pairs taken so far. A type for n, a root and the pairs
+// left would be no plainer: only the next function takes the three, and each call hands it a new root.
 fn take_pair(n: u32, root: u64, pairs_left: usize) -> u64
     requires { AfterPairs n (pairs_left + 1) root }
     ensures { AfterPairs n pairs_left result }
@@ -97,8 +98,9 @@ fn take_pair(n: u32, root: u64, pairs_left: usize) -> u64
     tens + next_digit(root, left)
 }
 
-// The root of all of n, from that of the pairs taken so far. The call of itself is the last thing done, so
-// that the compiler makes a loop of it.
+// The root of all of n, from that of the pairs taken so far. The recursion on the number of pairs left is a form
+// that document 01 names (docs/DECISIONS.md); the call of itself is the last thing done, so that the compiler
+// makes a loop of it.
 fn take_pairs(n: u32, root: u64, pairs_left: usize) -> u64
     requires { AfterPairs n pairs_left root }
     ensures { SquareRoot n result }

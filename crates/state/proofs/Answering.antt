@@ -20,7 +20,8 @@ use Rattle.fluid.proofs.Accepting.{accepts}
 use Rattle.fluid.proofs.Theorems.{some_temperature, b_at_least_one, b_at_most}
 use Rattle.densities.specs.Densities.{density}
 use Rattle.densities.specs.Promise.{Weighable}
-use Rattle.roots.specs.Promise.{Found, HasRoots}
+use Rattle.roots.specs.declared.Found.{Found}
+use Rattle.roots.specs.Promise.{HasRoots}
 use Rattle.calls.specs.declared.Form.{Form}
 use Rattle.calls.specs.Checks.{form_checks}
 use Rattle.calls.specs.Promise.{FindsWithBook}
@@ -48,15 +49,11 @@ weighed_for : (weighs : ℕ → ℕ) (side of_gas of_dense : ℕ) → weighs (fo
 weighed_for weighs zero of_gas of_dense = refl
 weighed_for weighs (suc side) of_gas of_dense = refl
 
-module _ {millikelvin pascals gas dense : ℕ} where
-  pub weighable_for : (side : ℕ) → Weighty millikelvin pascals gas dense → Weighable millikelvin pascals (for_side side gas dense)
-  weighable_for zero weighty = weighty.gas_fits
-  weighable_for (suc side) weighty = weighty.dense_fits
-
-  pub reported_for : (fluid : Fluid) (side root grams : ℕ) → root ≡ for_side side gas dense → grams ≡ density fluid millikelvin pascals root → SideOf side (Reported fluid millikelvin pascals gas dense) (record { number = 0; root = root; density = grams })
-  reported_for fluid side root grams is_root is_density =
-      let kind = kind_exists gas dense in
-      record { whole = _; holds = record { kind = kind.0; is_kind = kind.1; is_figures = refl }; is_told = rw (is_density, is_root, weighed_for (density fluid millikelvin pascals) side gas dense) refl }
+module _ {millikelvin pascals : ℕ} (found : Found) where
+  pub reported_for : (side root grams : ℕ) → root ≡ for_side side found.gas found.dense → grams ≡ density found.fluid millikelvin pascals root → SideOf side (Reported found millikelvin pascals) (record { number = 0; root = root; density = grams })
+  reported_for side root grams is_root is_density =
+      let kind = kind_exists found.gas found.dense in
+      record { whole = _; holds = record { kind = kind.0; is_kind = kind.1; is_figures = refl }; is_told = rw (is_density, is_root, weighed_for (density found.fluid millikelvin pascals) side found.gas found.dense) refl }
 
 -- an answered call writes its gas root, whichever kind it has
 pub written : (layout : Layout) (book : List ℕ) (slot : ℕ) (kind : Kind) {gas dense gas_density dense_density : ℕ} {figures : Figures} → figures ≡ answered_with kind gas dense gas_density dense_density → book_after layout book slot figures ≡ layout.put book slot gas
@@ -69,7 +66,7 @@ module _ (number millikelvin pascals : ℕ) (more : List Check) where
   refused refusal first = refuses refusal first refl
 
   module _ (found : Found) (finds : Gives (state_checks number millikelvin pascals ++ more) (HasRoots number millikelvin pascals) (with_value found)) where
-    pub weighty : Weighty millikelvin pascals found.gas found.dense
+    pub weighty : Weighty millikelvin pascals found
     weighty =
         let roots = finds.1 in
         let passes = none_front (state_checks number millikelvin pascals) more finds.0 in
@@ -79,7 +76,7 @@ module _ (number millikelvin pascals : ℕ) (more : List Check) where
           dense_fits = weighable accepted roots.reduces roots.is_dense.crossing;
         }
 
-    pub answered : {figures : Figures} → Reported found.fluid millikelvin pascals found.gas found.dense figures → Told number millikelvin pascals more figures
+    pub answered : {figures : Figures} → Reported found millikelvin pascals figures → Told number millikelvin pascals more figures
     answered reported =
         answers finds.0
         (record { found = found; roots = finds.1; kind = reported.kind; is_kind = reported.is_kind; is_figures = reported.is_figures })
@@ -93,10 +90,10 @@ module _ (form : Form) (number millikelvin pascals slot : ℕ) (book after : Lis
   refused_with_book refusal found = record { replies = refused number millikelvin pascals checks refusal found.finds; leaves = found.leaves }
 
   module _ (found : Found) (finds : FindsWithBook form number millikelvin pascals slot book (with_value found) after) where
-    pub weighty_with_book : Weighty millikelvin pascals found.gas found.dense
+    pub weighty_with_book : Weighty millikelvin pascals found
     weighty_with_book = weighty number millikelvin pascals checks found finds.finds
 
-    pub answered_with_book : {figures : Figures} → Reported found.fluid millikelvin pascals found.gas found.dense figures → CalledAs in_bytes form number millikelvin pascals slot book figures after
+    pub answered_with_book : {figures : Figures} → Reported found millikelvin pascals figures → CalledAs in_bytes form number millikelvin pascals slot book figures after
     answered_with_book reported =
         record {
           replies = answered number millikelvin pascals checks found finds.finds reported;

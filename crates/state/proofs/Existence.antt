@@ -4,6 +4,8 @@ use mathlib.Core.Path.{◌≡◌, refl}
 use mathlib.Core.Logic.{◌⊎◌, inl, inr}
 use mathlib.Core.List.{List, ◌++◌}
 use Prim.Native.Nat.{ℕ}
+use Rattle.std.specs.Prelude.{Result, Ok, Err}
+use Rattle.refusals.specs.declared.Refusal.{Refusal}
 use Rattle.refusals.specs.Checks.{Check, NoneOf, refuses, answers}
 use Rattle.refusals.proofs.Lists.{none_front}
 use Rattle.refusals.proofs.Theorems.{EachDecided, First, first_or_none}
@@ -12,18 +14,18 @@ use Rattle.cubic.proofs.Theorems.{kind_exists}
 use Rattle.fluid.specs.Checks.{state_checks}
 use Rattle.roots.proofs.Theorems.{roots_exist}
 use Rattle.densities.specs.Densities.{density}
-use Rattle.replies.specs.declared.Reply.{Reply}
-use Rattle.replies.specs.declared.Reply.TheVariants.{One, Split, Refused}
+use Rattle.replies.specs.declared.Answer.{Answer}
+use Rattle.replies.specs.declared.Answer.TheVariants.{One, Split}
 use Rattle.replies.specs.Figures.{answered_with, figures_of}
 use Rattle.state.specs.Replies.{Answered, Told}
 
 -- two roots with their densities are the figures of a reply
-reported : (gas dense : ℕ) (weighs : ℕ → ℕ) (kind : Kind) → IsKind gas dense kind → (reply : Reply) × (figures_of reply ≡ answered_with kind gas dense (weighs gas) (weighs dense))
-reported gas dense weighs ONE same = (One gas (weighs gas), rw same refl)
-reported gas dense weighs SPLIT apart = (Split gas dense (weighs gas) (weighs dense), refl)
+reported : (gas dense : ℕ) (weighs : ℕ → ℕ) (kind : Kind) → IsKind gas dense kind → (reply : Result Answer Refusal) × (figures_of reply ≡ answered_with kind gas dense (weighs gas) (weighs dense))
+reported gas dense weighs ONE same = (Ok (One gas (weighs gas)), rw same refl)
+reported gas dense weighs SPLIT apart = (Ok (Split gas dense (weighs gas) (weighs dense)), refl)
 
 module _ (number millikelvin pascals : ℕ) where
-  answer : NoneOf (state_checks number millikelvin pascals) → (reply : Reply) × Answered number millikelvin pascals (figures_of reply)
+  answer : NoneOf (state_checks number millikelvin pascals) → (reply : Result Answer Refusal) × Answered number millikelvin pascals (figures_of reply)
   answer none =
       let roots = roots_exist number millikelvin pascals none in
       let kind = kind_exists roots.0.gas roots.0.dense in
@@ -31,11 +33,11 @@ module _ (number millikelvin pascals : ℕ) where
       (told.0, record { found = roots.0; roots = roots.1; kind = kind.0; is_kind = kind.1; is_figures = told.1 })
 
   -- whatever checks stand behind a state's own
-  pub told : (more : List Check) → EachDecided (state_checks number millikelvin pascals ++ more) → (reply : Reply) × Told number millikelvin pascals more (figures_of reply)
+  pub told : (more : List Check) → EachDecided (state_checks number millikelvin pascals ++ more) → (reply : Result Answer Refusal) × Told number millikelvin pascals more (figures_of reply)
   told more decided = by_checks (first_or_none (state_checks number millikelvin pascals ++ more) decided)
     where
-      by_checks : First (state_checks number millikelvin pascals ++ more) ⊎ NoneOf (state_checks number millikelvin pascals ++ more) → (reply : Reply) × Told number millikelvin pascals more (figures_of reply)
-      by_checks (inl first) = (Refused first.0, refuses _ first.1 refl)
+      by_checks : First (state_checks number millikelvin pascals ++ more) ⊎ NoneOf (state_checks number millikelvin pascals ++ more) → (reply : Result Answer Refusal) × Told number millikelvin pascals more (figures_of reply)
+      by_checks (inl first) = (Err first.0, refuses _ first.1 refl)
       by_checks (inr none) =
           let found = answer (none_front (state_checks number millikelvin pascals) more none) in
           (found.0, answers none found.1)

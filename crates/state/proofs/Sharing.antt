@@ -5,6 +5,8 @@ use mathlib.Core.List.{List, [], ◌∷◌, ◌++◌}
 use Prim.Native.Nat.{ℕ, zero, suc, ◌<◌}
 use native.Mathlib.Omega.{arith}
 use lib.ListN.{length}
+use Rattle.std.specs.Prelude.{Result}
+use Rattle.refusals.specs.declared.Refusal.{Refusal}
 use Rattle.refusals.specs.Checks.{refuses, answers}
 use Rattle.refusals.proofs.Lists.{none_behind, tells_behind_same}
 use Rattle.books.specs.Layouts.{Layout, slot_checks, BothOrNeither, SameNumbers}
@@ -15,7 +17,7 @@ use Rattle.fluid.specs.Checks.{state_checks}
 use Rattle.calls.specs.declared.Form.{Form}
 use Rattle.calls.specs.declared.Form.TheVariants.{Whole, Side}
 use Rattle.calls.specs.Checks.{form_checks}
-use Rattle.replies.specs.declared.Reply.{Reply}
+use Rattle.replies.specs.declared.Answer.{Answer}
 use Rattle.replies.specs.declared.Figures.{Figures}
 use Rattle.replies.specs.Figures.{figures_of}
 use Rattle.replies.proofs.Theorems.{figures_determine_reply, figures_determine_side_reply, side_shown}
@@ -76,7 +78,7 @@ pub shown_once : (form : Form) (figures : Figures) (answer other : AnswerTo form
 shown_once Whole figures r s p q = figures_determine_reply r s (p ∙ sym q)
 shown_once (Side side) figures r s p q = figures_determine_side_reply r s (p ∙ sym q)
 
-pub shown : (form : Form) (reply : Reply) → (answer : AnswerTo form) × Shows form answer (figures_of reply)
+pub shown : (form : Form) (reply : Result Answer Refusal) → (answer : AnswerTo form) × Shows form answer (figures_of reply)
 shown Whole reply = (reply, refl)
 shown (Side side) reply = side_shown side reply
 

@@ -7,6 +7,8 @@ use mathlib.Core.List.{List, [], ◌∷◌, ◌++◌}
 use Prim.Native.Nat.{ℕ, ◌≤◌, ◌<◌}
 use native.Mathlib.Omega.{arith}
 use lib.ListN.{length, replicate, length-replicate}
+use Rattle.std.specs.Prelude.{Result}
+use Rattle.refusals.specs.declared.Refusal.{Refusal}
 use Rattle.refusals.specs.Checks.{NoneOf}
 use Rattle.refusals.proofs.Lists.{tells_without, tells_without_between}
 use Rattle.refusals.proofs.Theorems.{none_is_answered, not_answered_is_refused}
@@ -25,8 +27,8 @@ use Rattle.fluid.specs.Reduced.{Reduces}
 use Rattle.fluid.proofs.Accepting.{passes}
 use Rattle.fluid.proofs.Fluids.{number_determines_fluid}
 use Rattle.fluid.proofs.Theorems.{b_at_most, reduced_determined}
-use Rattle.replies.specs.declared.Reply.{Reply}
-use Rattle.replies.specs.declared.sides.SideReply.{SideReply}
+use Rattle.replies.specs.declared.Answer.{Answer}
+use Rattle.replies.specs.declared.sides.SideAnswer.{SideAnswer}
 use Rattle.replies.specs.declared.Figures.{Figures}
 use Rattle.replies.specs.declared.sides.SideFigures.{SideFigures}
 use Rattle.replies.specs.Figures.{number_of_kind, figures_of}
@@ -89,11 +91,11 @@ module _ {fluid : Fluid} {millikelvin pascals : ℕ} {reduced : Reduced} {figure
 
 -- Two replies that keep what `ask` promises are equal, and so are two that keep what `ask_side` promises.
 module _ (number millikelvin pascals : ℕ) where
-  pub reply_determined : (r s : Reply) → Replies number millikelvin pascals (figures_of r) → Replies number millikelvin pascals (figures_of s) → r ≡ s
+  pub reply_determined : (r s : Result Answer Refusal) → Replies number millikelvin pascals (figures_of r) → Replies number millikelvin pascals (figures_of s) → r ≡ s
   reply_determined r s p q = figures_determine_reply r s (same_told number millikelvin pascals [] (figures_of r) (figures_of s) p q)
 
   module _ (side : ℕ) where
-    pub side_determined : (r s : SideReply) → RepliesForSide number millikelvin pascals side (side_figures_of r) → RepliesForSide number millikelvin pascals side (side_figures_of s) → r ≡ s
+    pub side_determined : (r s : Result SideAnswer Refusal) → RepliesForSide number millikelvin pascals side (side_figures_of r) → RepliesForSide number millikelvin pascals side (side_figures_of s) → r ≡ s
     side_determined r s p q =
         figures_determine_side_reply r s (side_once (same_told number millikelvin pascals (form_checks (Side side))) p q)
 
@@ -113,7 +115,7 @@ module _ (number millikelvin pascals : ℕ) where
           (q.is_told ∙ ap (figures_for side) same, p.leaves ∙ sym (q.holds.leaves ∙ ap (book_after in_bytes book slot) same))
 
   -- both sides of a ONE state get the same
-  pub one_has_equal_sides : (r : Reply) (of_gas of_dense : SideReply) → Replies number millikelvin pascals (figures_of r) → (figures_of r).kind ≡ number_of_kind ONE → RepliesForSide number millikelvin pascals gas (side_figures_of of_gas) → RepliesForSide number millikelvin pascals dense (side_figures_of of_dense) → of_gas ≡ of_dense
+  pub one_has_equal_sides : (r : Result Answer Refusal) (of_gas of_dense : Result SideAnswer Refusal) → Replies number millikelvin pascals (figures_of r) → (figures_of r).kind ≡ number_of_kind ONE → RepliesForSide number millikelvin pascals gas (side_figures_of of_gas) → RepliesForSide number millikelvin pascals dense (side_figures_of of_dense) → of_gas ≡ of_dense
   one_has_equal_sides r of_gas of_dense p is_one q q' =
       let gas_named : NoneOf (form_checks (Side gas)) = (λ neither. neither.0 refl, tt) in
       let dense_named : NoneOf (form_checks (Side dense)) = (λ neither. neither.1 refl, tt) in
@@ -128,28 +130,28 @@ refused_changes_nothing {layout} {slot = slot} {book = book} refused called =
 
 -- two calls that keep what `ask_with_book` or `ask_side_with_book` promises give one reply and leave one book
 module _ (number millikelvin pascals : ℕ) where
-  pub call_determined : (slot : ℕ) (book : List ℕ) {r s : Reply} {after after' : List ℕ} → Called number millikelvin pascals slot book (figures_of r) after → Called number millikelvin pascals slot book (figures_of s) after' → (r ≡ s) × (after ≡ after')
+  pub call_determined : (slot : ℕ) (book : List ℕ) {r s : Result Answer Refusal} {after after' : List ℕ} → Called number millikelvin pascals slot book (figures_of r) after → Called number millikelvin pascals slot book (figures_of s) after' → (r ≡ s) × (after ≡ after')
   call_determined slot book {r} {s} p q =
       let same = called_once p q in
       (figures_determine_reply r s same.0, same.1)
 
-  pub side_call_determined : (side slot : ℕ) (book : List ℕ) {r s : SideReply} {after after' : List ℕ} → CalledForSide number millikelvin pascals side slot book (side_figures_of r) after → CalledForSide number millikelvin pascals side slot book (side_figures_of s) after' → (r ≡ s) × (after ≡ after')
+  pub side_call_determined : (side slot : ℕ) (book : List ℕ) {r s : Result SideAnswer Refusal} {after after' : List ℕ} → CalledForSide number millikelvin pascals side slot book (side_figures_of r) after → CalledForSide number millikelvin pascals side slot book (side_figures_of s) after' → (r ≡ s) × (after ≡ after')
   side_call_determined side slot book {r} {s} p q =
       let same = called_once p.holds q.holds in
       (figures_determine_side_reply r s (p.is_told ∙ ap (figures_for side) same.0 ∙ sym q.is_told), same.1)
 
   -- where the book has the slot, a call without a book gives the same
-  pub same_without_book : {slot : ℕ} {book after : List ℕ} {r s : Reply} → Placed in_bytes slot (length book) → Called number millikelvin pascals slot book (figures_of r) after → Replies number millikelvin pascals (figures_of s) → r ≡ s
+  pub same_without_book : {slot : ℕ} {book after : List ℕ} {r s : Result Answer Refusal} → Placed in_bytes slot (length book) → Called number millikelvin pascals slot book (figures_of r) after → Replies number millikelvin pascals (figures_of s) → r ≡ s
   same_without_book {slot} {book} {r = r} {s} placed p q =
       reply_determined number millikelvin pascals r s (tells_without (state_checks number millikelvin pascals) (slot_checks in_bytes slot (length book)) placed p.replies) q
 
 -- ---- calls of both forms
 -- what the calls promise is what `Gets` says of them
 module _ {number millikelvin pascals slot : ℕ} {book after : List ℕ} where
-  pub whole_gets : {reply : Reply} → Called number millikelvin pascals slot book (figures_of reply) after → Gets in_bytes (record { fluid = number; millikelvin = millikelvin; pascals = pascals; form = Whole; slot = slot }) book reply
+  pub whole_gets : {reply : Result Answer Refusal} → Called number millikelvin pascals slot book (figures_of reply) after → Gets in_bytes (record { fluid = number; millikelvin = millikelvin; pascals = pascals; form = Whole; slot = slot }) book reply
   whole_gets called = record { figures = _; after = after; called = called; shows = refl }
 
-  pub side_gets : {side : ℕ} {reply : SideReply} → CalledForSide number millikelvin pascals side slot book (side_figures_of reply) after → Gets in_bytes (record { fluid = number; millikelvin = millikelvin; pascals = pascals; form = Side side; slot = slot }) book reply
+  pub side_gets : {side : ℕ} {reply : Result SideAnswer Refusal} → CalledForSide number millikelvin pascals side slot book (side_figures_of reply) after → Gets in_bytes (record { fluid = number; millikelvin = millikelvin; pascals = pascals; form = Side side; slot = slot }) book reply
   side_gets called = record { figures = called.whole; after = after; called = called.holds; shows = called.is_told }
 
 -- one call, on any two books of the same length, gets one answer
@@ -187,10 +189,10 @@ module _ (old new : List ℕ) (alike : BothOrNeither in_numbers in_bytes old new
 
 -- Every state has a reply, for each side too, and every call with a book has one and leaves some book.
 module _ (number millikelvin pascals : ℕ) where
-  pub every_state_has_a_reply : (reply : Reply) × Replies number millikelvin pascals (figures_of reply)
+  pub every_state_has_a_reply : (reply : Result Answer Refusal) × Replies number millikelvin pascals (figures_of reply)
   every_state_has_a_reply = told number millikelvin pascals [] (call_decided Whole number millikelvin pascals)
 
-  pub every_side_has_a_reply : (side : ℕ) → (reply : SideReply) × RepliesForSide number millikelvin pascals side (side_figures_of reply)
+  pub every_side_has_a_reply : (side : ℕ) → (reply : Result SideAnswer Refusal) × RepliesForSide number millikelvin pascals side (side_figures_of reply)
   every_side_has_a_reply side =
       let whole = told number millikelvin pascals (form_checks (Side side)) (call_decided (Side side) number millikelvin pascals) in
       let shown = side_shown side whole.0 in

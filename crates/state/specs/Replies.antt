@@ -5,7 +5,8 @@ use Rattle.refusals.specs.Checks.{Check, Tells}
 use Rattle.cubic.specs.Cubic.{Kind, IsKind}
 use Rattle.fluid.specs.Checks.{state_checks}
 use Rattle.densities.specs.Densities.{density}
-use Rattle.roots.specs.Promise.{Found, HasRoots}
+use Rattle.roots.specs.declared.Found.{Found}
+use Rattle.roots.specs.Promise.{HasRoots}
 use Rattle.calls.specs.declared.Form.{Form}
 use Rattle.calls.specs.declared.Form.TheVariants.{Whole, Side}
 use Rattle.calls.specs.Checks.{form_checks}

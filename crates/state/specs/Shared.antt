@@ -1,10 +1,11 @@
 -- docs/RULES.md, "The book": calls of both forms made one after another on one book, however it is laid out, and the same calls made each alone.
-use Rattle.std.specs.Prelude.{◌≡◌, List, [], ◌∷◌, ℕ}
+use Rattle.std.specs.Prelude.{◌≡◌, List, [], ◌∷◌, ℕ, Result}
+use Rattle.refusals.specs.declared.Refusal.{Refusal}
 use Rattle.books.specs.Layouts.{Layout}
 use Rattle.calls.specs.declared.Form.{Form}
 use Rattle.calls.specs.declared.Form.TheVariants.{Whole, Side}
-use Rattle.replies.specs.declared.Reply.{Reply}
-use Rattle.replies.specs.declared.sides.SideReply.{SideReply}
+use Rattle.replies.specs.declared.Answer.{Answer}
+use Rattle.replies.specs.declared.sides.SideAnswer.{SideAnswer}
 use Rattle.replies.specs.declared.Figures.{Figures}
 use Rattle.replies.specs.Figures.{figures_of}
 use Rattle.replies.specs.Sides.{figures_for, side_figures_of}
@@ -19,8 +20,8 @@ pub record Call : Type 0 where
 
 -- what comes back of a call, by its form: all figures of a reply, or those for a side
 abbrev pub AnswerTo : Form → Type 0
-AnswerTo Whole = Reply
-AnswerTo (Side side) = SideReply
+AnswerTo Whole = Result Answer Refusal
+AnswerTo (Side side) = Result SideAnswer Refusal
 
 abbrev pub Shows : (form : Form) → AnswerTo form → Figures → Type 0
 Shows Whole reply figures = figures_of reply ≡ figures

@@ -15,17 +15,14 @@ use crate::answers::{answer, answer_side};
 pub use bands::{BandFigures, BandReply, band};
 use calls::Form;
 pub use replies::{DENSE, Figures, GAS, Reply, SideFigures, SideReply};
-use roots::Finding;
 pub use walks::{WalkFigures, WalkReply, walk};
 
 // Without a book: the search begins with no starting point.
 pub fn ask(fluid: u64, millikelvin: u64, pascals: u64) -> Reply
     ensures { Replies fluid millikelvin pascals (figures_of result) }
 {
-    match roots::find(fluid, millikelvin, pascals, 0) {
-        Finding::Refused(refusal) => Reply::Refused(refusal),
-        Finding::Roots { fluid, gas, dense } => answer(fluid, millikelvin, pascals, gas, dense),
-    }
+    let found = roots::find(fluid, millikelvin, pascals, 0)?;
+    Ok(answer(found, millikelvin, pascals))
 }
 
 // With a book: what its slot says changes no reply, and an answered call leaves the gas root there.
@@ -38,22 +35,16 @@ pub fn ask_with_book(
 ) -> Reply
     ensures { Called fluid millikelvin pascals slot book.old (figures_of result) book.new }
 {
-    match calls::find_with_book(fluid, millikelvin, pascals, Form::Whole, slot, book) {
-        Finding::Refused(refusal) => Reply::Refused(refusal),
-        Finding::Roots { fluid, gas, dense } => answer(fluid, millikelvin, pascals, gas, dense),
-    }
+    let found = calls::find_with_book(fluid, millikelvin, pascals, Form::Whole, slot, book)?;
+    Ok(answer(found, millikelvin, pascals))
 }
 
 // For one side, without a book.
 pub fn ask_side(fluid: u64, millikelvin: u64, pascals: u64, side: u64) -> SideReply
     ensures { RepliesForSide fluid millikelvin pascals side (side_figures_of result) }
 {
-    match calls::find(fluid, millikelvin, pascals, Form::Side(side), 0) {
-        Finding::Refused(refusal) => SideReply::Refused(refusal),
-        Finding::Roots { fluid, gas, dense } => {
-            answer_side(fluid, millikelvin, pascals, side, gas, dense)
-        }
-    }
+    let found = calls::find(fluid, millikelvin, pascals, Form::Side(side), 0)?;
+    Ok(answer_side(found, millikelvin, pascals, side))
 }
 
 // For one side, with a book.
@@ -67,10 +58,6 @@ pub fn ask_side_with_book(
 ) -> SideReply
     ensures { CalledForSide fluid millikelvin pascals side slot book.old (side_figures_of result) book.new }
 {
-    match calls::find_with_book(fluid, millikelvin, pascals, Form::Side(side), slot, book) {
-        Finding::Refused(refusal) => SideReply::Refused(refusal),
-        Finding::Roots { fluid, gas, dense } => {
-            answer_side(fluid, millikelvin, pascals, side, gas, dense)
-        }
-    }
+    let found = calls::find_with_book(fluid, millikelvin, pascals, Form::Side(side), slot, book)?;
+    Ok(answer_side(found, millikelvin, pascals, side))
 }

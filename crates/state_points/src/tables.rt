@@ -1,6 +1,8 @@
-// The states that are asked as pairs of a temperature and a pressure, and what the book says before the
-// first of them.
-pub(crate) const LARGEST: u64 = 18_446_744_073_709_551_615;
+// The states that are asked, as pairs of a temperature and a pressure and one by one, and what the book says
+// before the first of them.
+use crate::{Question, SLOTS};
+
+const LARGEST: u64 = u64::MAX;
 
 // What a careless page might lend, each a number of three bytes: nothing, roots of worked states with
 // their neighbours and their coefficients, the third of the grid where the cubic bends, the ends of the
@@ -33,4 +35,25 @@ pub(crate) const PRESSURES: [u64; 45] = [
     1_000_000, 1_100_000, 1_226_499, 1_226_500, 1_226_501, 1_500_000, 2_000_000, 2_500_000,
     3_000_000, 3_395_799, 3_395_800, 3_395_801, 3_500_000, 4_200_000, 5_041_999, 5_042_000,
     5_042_001, 10_000_000, 30_000_000, 49_999_999, 50_000_000, 50_000_001, LARGEST,
+];
+
+pub(crate) const SINGLE: [Question; 14] = [
+    // Each side of a range where every later refusal applies too.
+    (1, 0, 0, SLOTS),
+    (1, LARGEST, LARGEST, SLOTS),
+    (1, 300_000, 0, SLOTS),
+    (1, 300_000, LARGEST, SLOTS),
+    // Each other refusal likewise.
+    (3, 0, 0, SLOTS),
+    (LARGEST, LARGEST, LARGEST, LARGEST),
+    (1, 300_000, 1_000_000, SLOTS),
+    (0, 300_000, 1_000_000, LARGEST),
+    // Densities that reach their last gram only by what the molar mass leaves over the gas constant: for each
+    // fluid a state with one root and one with two.
+    (0, 24_073, 15_549_695, 0),
+    (0, 25_329, 397_317, 1),
+    (1, 121_784, 3_611_541, 2),
+    (1, 107_132, 37_618, 3),
+    (2, 84_223, 3_373_821, 4),
+    (2, 109_820, 314_834, 5),
 ];

@@ -2,11 +2,10 @@
 // moves a part of the bytes is followed by another.
 #![tactic(auto)]
 
-ghost use Rattle.std.specs.Prelude.{◌≡◌, ◌<◌, ◌≤◌, ◌^◌, ◌↔◌, IfOk, IsErrAnd, IsTrue};
-ghost use Rattle.std.specs.IoError.{error_kind};
+ghost use Rattle.std.specs.Prelude.{◌≡◌, ◌<◌, ◌≤◌, ◌^◌, ℕ, IfOk, IfErr};
 ghost use Rattle.io.specs.Counts.{IsPrefixLen};
 ghost use Rattle.buffers.specs.Puts.{Puts};
-ghost use Rattle.streams.specs.Streams.{call_of, got_of, NothingOfAFailure};
+ghost use Rattle.streams.specs.Streams.{CameTo, NoShortInput};
 ghost use Rattle.streams.specs.Faults.{fault_text, room_for_a_reason, longest_fault};
 
 use buffers::put;
@@ -14,7 +13,7 @@ use std::io;
 use std::io::{Cursor, ErrorKind, Read, Write};
 
 // What one call came to: it moved so many bytes, or none, as at the end of an input; a signal came first;
-// or it can't.
+// or it can't. Four ways to go on, so it is no Result.
 #[derive(Clone, Copy)]
 pub enum Call {
     Bytes(usize),
@@ -23,20 +22,18 @@ pub enum Call {
     Failed,
 }
 
-// What was read: so many bytes, which lie at the start of the buffer. Of an input that failed none is passed on.
-#[derive(Clone, Copy)]
-pub struct Input {
-    pub failed: bool,
-    pub held: usize,
+// Of a text that not all was written of: how many of its bytes the system took, and why no more.
+#[derive(Drop)]
+pub struct Unwritten {
+    pub taken: usize,
+    pub why: Option<io::Error>,
 }
 
 // A program ends, so it makes no more calls than this for one input or output. No system lives to see the last.
-const MOST_CALLS: u64 = 18_446_744_073_709_551_615;
+const MOST_CALLS: u64 = u64::MAX;
 
-const FAILED_INPUT: Input = Input {
-    failed: true,
-    held: 0,
-};
+// One byte more than a sheet may have, so that a longer one is told.
+const LONGEST_INPUT: usize = 65_537;
 
 // Room for the system's words for any error.
 const ROOM: usize = 256;
@@ -50,105 +47,65 @@ const AROUND: usize = 3;
 // Where nothing failed, and the system took no more bytes all the same.
 const NO_REASON: &[u8] = b"no more was taken";
 
-// What std tells of a call as C's call answered it: a count, or a number below 0, and whether errno then said that a
-// signal came.
-fn answered(answer: &io::Result<usize>) -> (isize, bool)
-    requires { IfOk answer.now (λ count. count < 2 ^ 63) }
-    ensures got { result.0 ≡ got_of answer.now }
-    ensures interrupted { IsTrue result.1 ↔ IsErrAnd answer.now (λ why. error_kind why ≡ ErrorKind.Interrupted) }
+// What std tells of a call that was lent `most` bytes.
+fn came_to(answer: &io::Result<usize>, most: usize) -> Call
+    ensures told { CameTo answer.now most result }
+    ensures no_more_than_lent { (moved : ℕ) → result ≡ Call.Bytes moved → moved ≤ most }
+    ensures nothing_moved { result ≡ Call.Nothing → answer.now ≡ Ok 0 }
 {
     match answer {
-        Ok(count) => (*count as isize, false),
-        Err(why) => (-1, why.kind() == ErrorKind::Interrupted),
+        Ok(0) => Call::Nothing,
+        Ok(count) => Call::Bytes((*count).min(most)),
+        Err(why) if why.kind() == ErrorKind::Interrupted => Call::Interrupted,
+        Err(_) => Call::Failed,
     }
 }
 
-// Of a call that was lent `most` bytes and answered `got`, where C's errno then says that a signal came, or not.
-fn came_to(got: isize, interrupted: bool, most: usize) -> Call
-    ensures { result ≡ call_of got interrupted most }
-{
-    if got < 0 {
-        if interrupted {
-            return Call::Interrupted;
-        }
-        return Call::Failed;
-    }
-    if got == 0 {
-        return Call::Nothing;
-    }
-    if most < got as usize {
-        return Call::Bytes(most);
-    }
-    Call::Bytes(got as usize)
-}
-
-// Reads until the buffer is full or the input ends. `why` is set where the reading failed.
-#[tactic(auto, using(crate::proofs::Calls::lent))]
-pub fn read<R: Read>(input: &mut R, buffer: &mut [u8], why: &mut Option<io::Error>) -> Input
-    ensures prefix_len { IsPrefixLen result.held buffer.new }
-    ensures nothing_of_a_failure { NothingOfAFailure result }
+// Reads until the buffer is full or the input ends, and answers how many bytes lie at its start. Of an input that
+// failed none is passed on, but why, where that is known.
+pub fn read<R: Read>(input: &mut R, buffer: &mut [u8]) -> Result<usize, Option<io::Error>>
+    ensures prefix_len { IfOk result (λ held. IsPrefixLen held buffer.new) }
+    ensures no_short_input { NoShortInput result buffer.new (R.remaining input.new) }
 {
     let mut held = 0;
-    let mut calls = MOST_CALLS;
-    while held < buffer.len() {
-        if calls == 0 {
-            return FAILED_INPUT;
-        }
-        calls -= 1;
+    for _ in 0..MOST_CALLS {
         let room = buffer.len() - held;
+        if room == 0 {
+            return Ok(held);
+        }
         let answer = input.read(&mut buffer[held..]);
-        let (got, interrupted) = answered(&answer);
-        match came_to(got, interrupted, room) {
-            Call::Bytes(more) => {
-                held += more;
-            }
-            Call::Nothing => {
-                break;
-            }
+        match came_to(&answer, room) {
+            Call::Bytes(more) => held += more,
+            Call::Nothing => return Ok(held),
             Call::Interrupted => {}
-            Call::Failed => {
-                *why = answer.err();
-                return FAILED_INPUT;
-            }
+            Call::Failed => return Err(answer.err()),
         }
     }
-    Input {
-        failed: false,
-        held,
-    }
+    Err(None)
 }
 
-// Writes all of the text, and answers how many of its bytes the system took: all of them, unless it failed. `why`
-// is set where a call did.
-#[tactic(auto, using(crate::proofs::Calls::lent))]
-pub fn write<W: Write>(output: &mut W, text: &[u8], why: &mut Option<io::Error>) -> usize
-    ensures { IsPrefixLen result text.now }
+// Writes all of the text, unless the system takes no more.
+pub fn write<W: Write>(output: &mut W, text: &[u8]) -> Result<(), Unwritten>
+    ensures { IfErr result (λ unwritten. IsPrefixLen unwritten.taken text.now) }
 {
     let mut taken = 0;
-    let mut calls = MOST_CALLS;
-    while taken < text.len() {
-        if calls == 0 {
-            return taken;
-        }
-        calls -= 1;
+    for _ in 0..MOST_CALLS {
         let left = text.len() - taken;
+        if left == 0 {
+            return Ok(());
+        }
         let answer = output.write(&text[taken..]);
-        let (got, interrupted) = answered(&answer);
-        match came_to(got, interrupted, left) {
-            Call::Bytes(more) => {
-                taken += more;
-            }
-            Call::Nothing => {
-                return taken;
-            }
+        match came_to(&answer, left) {
+            Call::Bytes(more) => taken += more,
+            Call::Nothing => return Err(Unwritten { taken, why: None }),
             Call::Interrupted => {}
             Call::Failed => {
-                *why = answer.err();
-                return taken;
+                let why = answer.err();
+                return Err(Unwritten { taken, why });
             }
         }
     }
-    taken
+    Err(Unwritten { taken, why: None })
 }
 
 // Puts the line that says what failed and why at the start of a buffer, and answers its length. Where it has no room,
@@ -203,6 +160,47 @@ pub fn tell<W: Write>(errors: &mut W, what: &[u8], why: &Option<io::Error>) -> u
     let words = reason(why, &mut room);
     let mut line = [0u8; LONGEST_FAULT];
     let length = fault_line(what, &room[..words], &mut line);
-    let mut unheard = None;
-    write(errors, &line[..length.min(LONGEST_FAULT)], &mut unheard)
+    let line = &line[..length.min(LONGEST_FAULT)];
+    match write(errors, line) {
+        Ok(()) => line.len(),
+        Err(unwritten) => unwritten.taken,
+    }
+}
+
+// A program that reads a sheet and prints a text about it.
+pub trait Program<const ROOM: usize> {
+    // What is told where the sheet was not read, and where not all of the text was written.
+    const UNREAD: &'static [u8];
+
+    const UNWRITTEN: &'static [u8];
+
+    // Puts the text at the start of the buffer, and answers its length.
+    fn print(&self, sheet: &[u8], text: &mut [u8; ROOM]) -> usize
+        ensures { result ≤ ROOM };
+
+    // No larger buffer can be lent.
+    ghost room_fits: { ROOM < 2 ^ 63 };
+}
+
+// Reads the sheet, prints the text, and tells what failed; of an input that failed nothing is printed. Answers how
+// many bytes of what failed the system took, 0 where nothing did.
+pub fn serve<const ROOM: usize, P: Program<ROOM>, R: Read, W: Write, E: Write>(
+    program: &P,
+    input: &mut R,
+    output: &mut W,
+    errors: &mut E,
+) -> usize
+    ensures { result ≤ longest_fault }
+{
+    let mut sheet = [0u8; LONGEST_INPUT];
+    let held = match read(input, &mut sheet) {
+        Ok(held) => held,
+        Err(why) => return tell(errors, P::UNREAD, &why),
+    };
+    let mut text = [0u8; ROOM];
+    let length = program.print(&sheet[..held], &mut text);
+    match write(output, &text[..length]) {
+        Ok(()) => 0,
+        Err(unwritten) => tell(errors, P::UNWRITTEN, &unwritten.why),
+    }
 }

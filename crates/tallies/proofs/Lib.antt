@@ -2,5 +2,4 @@
 pub mod Lists
 pub mod Reaching
 pub mod Adding
-pub mod Rows
 pub mod Theorems

@@ -1,41 +1,30 @@
 -- Lists of replies with one more behind them: what is counted, added up and true of each. Assumes nothing.
-use mathlib.Core.Path.{◌≡◌, refl, ap, ◌∙◌}
+use mathlib.Core.Path.{◌≡◌, ap, ◌∙◌}
 use mathlib.Core.Bool.{Bool, true, false, cond}
 use mathlib.Core.List.{List, [], ◌∷◌, ◌++◌, append-nil}
 use Prim.Native.Nat.{ℕ, suc, ◌+◌, ◌*◌, ◌≤◌}
 use native.Mathlib.Omega.{arith}
 use lib.ListN.{length, length-append}
-use Rattle.tallies.specs.Entries.{Entry, density, with_first, only, how_many, sum_of, Each}
+use Rattle.std.specs.Prelude.{filter}
+use Rattle.std.proofs.lemmas.List.Elements.{filter-append}
+use Rattle.std.proofs.lemmas.List.Sums.{length-filter, count_by-le-length}
+use Rattle.tallies.specs.Entries.{Entry, density, how_many, sum_of, Each}
 
 abbrev pub behind : List Entry → Entry → List Entry
 behind entries entry = entries ++ (entry ∷ [])
 
-first_before : (t : Bool) (entry : Entry) (entries others : List Entry) → with_first t entry (entries ++ others) ≡ with_first t entry entries ++ others
-first_before true entry entries others = refl
-first_before false entry entries others = refl
-
-pub only_behind : (test : Entry → Bool) (entries : List Entry) (entry : Entry) → only test (behind entries entry) ≡ only test entries ++ with_first (test entry) entry []
-only_behind test [] entry = refl
-only_behind test (other ∷ entries) entry =
-    ap (with_first (test other) other) (only_behind test entries entry) ∙ first_before (test other) other (only test entries) (with_first (test entry) entry [])
-
 -- one that passes the test stands behind the others that do, and any other changes nothing
-pub only_more : (test : Entry → Bool) (entries : List Entry) (entry : Entry) (t : Bool) → test entry ≡ t → only test (behind entries entry) ≡ cond t (behind (only test entries) entry) (only test entries)
-only_more test entries entry true is = only_behind test entries entry ∙ ap (λ (b : Bool). only test entries ++ with_first b entry []) is
+pub only_more : (test : Entry → Bool) (entries : List Entry) (entry : Entry) (t : Bool) → test entry ≡ t → filter test (behind entries entry) ≡ cond t (behind (filter test entries) entry) (filter test entries)
+only_more test entries entry true is = filter-append test entries (entry ∷ []) ∙ ap (λ (b : Bool). filter test entries ++ cond b (entry ∷ []) []) is
 only_more test entries entry false is =
-    only_behind test entries entry ∙ ap (λ (b : Bool). only test entries ++ with_first b entry []) is ∙ append-nil (only test entries)
+    filter-append test entries (entry ∷ []) ∙ ap (λ (b : Bool). filter test entries ++ cond b (entry ∷ []) []) is ∙ append-nil (filter test entries)
 
 pub many_more : (test : Entry → Bool) (entries : List Entry) (entry : Entry) (t : Bool) → test entry ≡ t → how_many test (behind entries entry) ≡ cond t (suc (how_many test entries)) (how_many test entries)
-many_more test entries entry true is = omega (arith, ap length (only_more test entries entry true is), length-append (only test entries) (entry ∷ []))
+many_more test entries entry true is = omega (arith, ap length (only_more test entries entry true is), length-append (filter test entries) (entry ∷ []))
 many_more test entries entry false is = ap length (only_more test entries entry false is)
 
 pub no_more_than_all : (test : Entry → Bool) (entries : List Entry) → how_many test entries ≤ length entries
-no_more_than_all test [] = omega arith
-no_more_than_all test (entry ∷ entries) = either (test entry) (no_more_than_all test entries)
-  where
-    either : (t : Bool) → how_many test entries ≤ length entries → length (with_first t entry (only test entries)) ≤ suc (length entries)
-    either true fewer = omega (arith, fewer)
-    either false fewer = omega (arith, fewer)
+no_more_than_all test entries = omega (arith, length-filter test entries, count_by-le-length test entries)
 
 pub sum_behind : (entries : List Entry) (entry : Entry) → sum_of (behind entries entry) ≡ sum_of entries + density entry
 sum_behind [] entry = omega arith
@@ -55,11 +44,11 @@ module _ (Holds : Entry → Type 0) where
   each_has [] entry after (one, others) = one
   each_has (other ∷ before) entry after (one, others) = each_has before entry after others
 
-  pub each_only : (test : Entry → Bool) (entries : List Entry) → Each Holds entries → Each Holds (only test entries)
+  pub each_only : (test : Entry → Bool) (entries : List Entry) → Each Holds entries → Each Holds (filter test entries)
   each_only test [] each = tt
   each_only test (entry ∷ entries) (one, others) = either (test entry) (each_only test entries others)
     where
-      either : (t : Bool) → Each Holds (only test entries) → Each Holds (with_first t entry (only test entries))
+      either : (t : Bool) → Each Holds (filter test entries) → Each Holds (cond t (entry ∷ filter test entries) (filter test entries))
       either true later = (one, later)
       either false later = later
 

@@ -8,8 +8,8 @@ use Rattle.tallies.specs.declared.Reached.{Reached}
 use Rattle.tallies.specs.declared.Section.{Section}
 use Rattle.tallies.specs.declared.Report.{Report}
 use Rattle.tallies.specs.Entries.{Entry, density, answered, Each, nothing_reached, Reaches, Smaller, Larger, SectionOf}
-use Rattle.tallies.specs.Steps.{plus, empty_report}
-use Rattle.tallies.specs.Rows.{row_of, report_at, AddsTo}
+use Rattle.tallies.specs.Steps.{plus, adds_to, empty_report}
+use Rattle.tallies.specs.Rows.{row_of, report_at}
 use Rattle.tallies.proofs.Lists.{each_of_both, each_has, each_follows}
 use Rattle.tallies.proofs.Reaching.{Order, smaller, larger}
 
@@ -134,6 +134,5 @@ row_determined section is is' = is ∙ sym is'
 pub report_of_determined : (hydrogen oxygen nitrogen : List ℕ) {r s : Report} → r ≡ report_at hydrogen oxygen nitrogen → s ≡ report_at hydrogen oxygen nitrogen → r ≡ s
 report_of_determined hydrogen oxygen nitrogen is is' = is ∙ sym is'
 
-pub add_determined : (fluid : ℕ) (entry : Entry) (hydrogen oxygen nitrogen : List ℕ) {hydrogen' oxygen' nitrogen' hydrogen'' oxygen'' nitrogen'' : List ℕ} → AddsTo fluid entry hydrogen oxygen nitrogen hydrogen' oxygen' nitrogen' → AddsTo fluid entry hydrogen oxygen nitrogen hydrogen'' oxygen'' nitrogen'' → ((hydrogen' ≡ hydrogen'') × (oxygen' ≡ oxygen'')) × (nitrogen' ≡ nitrogen'')
-add_determined fluid entry hydrogen oxygen nitrogen one two =
-    ((one.is_hydrogen ∙ sym two.is_hydrogen, one.is_oxygen ∙ sym two.is_oxygen), one.is_nitrogen ∙ sym two.is_nitrogen)
+pub add_determined : (report : Report) (fluid : ℕ) (entry : Entry) {r s : Report} → r ≡ adds_to report fluid entry → s ≡ adds_to report fluid entry → r ≡ s
+add_determined report fluid entry is is' = is ∙ sym is'

@@ -1,6 +1,6 @@
 -- docs/RULES.md, "The report": what the replies to a section's states come to. Each figure of a report is said by what it is of the list of these
 -- replies: how many there are, a sum, the least or the largest, and the first line that reaches it.
-use Rattle.std.specs.Prelude.{◌≡◌, Bool, true, false, List, [], ◌∷◌, ◌++◌, ℕ, ◌+◌, ◌<◌, eqb, length}
+use Rattle.std.specs.Prelude.{◌≡◌, Bool, List, [], ◌∷◌, ◌++◌, ℕ, ◌+◌, ◌<◌, eqb, length, filter}
 use Rattle.cubic.specs.Cubic.{Kind, ONE, SPLIT}
 use Rattle.replies.specs.declared.Figures.{Figures}
 use Rattle.replies.specs.Figures.{number_of_kind}
@@ -15,17 +15,8 @@ pub record Entry : Type 0 where
 abbrev pub density : Entry → ℕ
 density entry = entry.figures.gas_density
 
-abbrev pub with_first : Bool → Entry → List Entry → List Entry
-with_first true entry entries = entry ∷ entries
-with_first false entry entries = entries
-
--- those for which a test holds, in their order
-abbrev pub only : (test : Entry → Bool) → List Entry → List Entry
-only test [] = []
-only test (entry ∷ entries) = with_first (test entry) entry (only test entries)
-
 abbrev pub how_many : (test : Entry → Bool) → List Entry → ℕ
-how_many test entries = length (only test entries)
+how_many test entries = length (filter test entries)
 
 abbrev pub of_kind : Kind → Entry → Bool
 of_kind kind entry = eqb entry.figures.kind (number_of_kind kind)
@@ -35,7 +26,7 @@ of_number number entry = eqb entry.figures.number number
 
 -- an answer has number 0
 abbrev pub answered : List Entry → List Entry
-answered entries = only (of_number 0) entries
+answered entries = filter (of_number 0) entries
 
 abbrev pub sum_of : List Entry → ℕ
 sum_of [] = 0

@@ -3,18 +3,15 @@
 // states.
 #![tactic(auto)]
 
-ghost use Rattle.std.specs.Prelude.{◌≡◌, ltb};
-ghost use Rattle.tallies.specs.Steps.{plus, counted, further, beyond, with_reply, empty_report};
-ghost use Rattle.tallies.specs.Rows.{row_of, section_at, report_at, AddsTo};
+ghost use Rattle.std.specs.Prelude.{◌≡◌, [], get_or};
+ghost use Rattle.tallies.specs.Steps.{plus, counted, further, with_reply, adds_to, empty_report};
+ghost use Rattle.tallies.specs.Rows.{row_of, section_at, report_at};
 
 use replies::Figures;
 
-// The largest number of 64 bits.
-const LARGEST: u64 = 18_446_744_073_709_551_615;
-
 // The smallest or the largest gas density so far, and the line of the first state that reaches it. Line 0: no state
-// was answered so far.
-#[derive(Clone, Copy)]
+// was answered so far. It's no Option, since C may keep any density beside line 0 in a row, and gets it back (woolyard_report_take).
+#[derive(Clone, Copy, Default)]
 pub struct Reached {
     pub density: u64,
     pub line: u64,
@@ -22,7 +19,7 @@ pub struct Reached {
 
 // What the states of one section come to: how many were of each kind, how many were refused under each number, and
 // the gas densities of those that were answered.
-#[derive(Clone, Copy)]
+#[derive(Clone, Copy, Default)]
 pub struct Section {
     pub one: u64,
     pub split: u64,
@@ -35,8 +32,11 @@ pub struct Section {
     pub largest: Reached,
 }
 
+// ONE, SPLIT, 21, 22, 31, 32, the sum, the smallest density and its line, the largest and its line.
+pub type Row = [u64; 11];
+
 // All sections of a sheet.
-#[derive(Clone, Copy)]
+#[derive(Clone, Copy, Default)]
 pub struct Report {
     pub hydrogen: Section,
     pub oxygen: Section,
@@ -47,98 +47,101 @@ pub struct Report {
 pub fn plus(total: u64, more: u64) -> u64
     ensures { result ≡ plus total more }
 {
-    if LARGEST - more < total {
-        return total;
-    }
-    total + more
+    total.checked_add(more).unwrap_or(total)
 }
 
 // One more where a figure of the reply is the one that is counted.
 fn counted(count: u64, figure: u64, of: u64) -> u64
     ensures { result ≡ counted count figure of }
 {
-    if figure == of {
-        return plus(count, 1);
-    }
-    count
+    if figure == of { plus(count, 1) } else { count }
 }
 
-// A density that is only reached again changes nothing: the first line stays.
-fn smallest_with(so_far: Reached, density: u64, line: u64) -> Reached
-    ensures { result ≡ further ltb so_far density line }
-{
-    if so_far.line == 0 {
-        return Reached { density, line };
-    }
-    if density < so_far.density {
-        return Reached { density, line };
-    }
-    so_far
-}
-
-fn largest_with(so_far: Reached, density: u64, line: u64) -> Reached
-    ensures { result ≡ further beyond so_far density line }
-{
-    if so_far.line == 0 {
-        return Reached { density, line };
-    }
-    if so_far.density < density {
-        return Reached { density, line };
-    }
-    so_far
-}
-
-// The figures of a section as a row, in their order. A row is added to where it lies: no figure is copied for a reply.
-pub fn row(section: Section) -> [u64; 11]
-    ensures { result ≡ row_of section }
-{
-    let smallest = section.smallest;
-    let largest = section.largest;
-    [
-        section.one,
-        section.split,
-        section.temperature_too_low,
-        section.temperature_too_high,
-        section.pressure_too_low,
-        section.pressure_too_high,
-        section.sum,
-        smallest.density,
-        smallest.line,
-        largest.density,
-        largest.line,
-    ]
-}
-
-fn section_of(row: [u64; 11]) -> Section
-    ensures { result ≡ section_at row }
-{
-    Section {
-        one: row[0],
-        split: row[1],
-        temperature_too_low: row[2],
-        temperature_too_high: row[3],
-        pressure_too_low: row[4],
-        pressure_too_high: row[5],
-        sum: row[6],
-        smallest: Reached {
-            density: row[7],
-            line: row[8],
-        },
-        largest: Reached {
-            density: row[9],
-            line: row[10],
-        },
+impl Reached {
+    // What goes beyond all before it is reached, and so is the first of all. A density that is only reached again changes
+    // nothing: the first line stays.
+    fn further(self, next: Reached, goes_beyond: bool) -> Reached
+        ensures { result ≡ further (λ density other. goes_beyond) self next.density next.line }
+    {
+        if self.line == 0 || goes_beyond {
+            next
+        } else {
+            self
+        }
     }
 }
 
-// The report of three rows.
-pub fn report_of(hydrogen: [u64; 11], oxygen: [u64; 11], nitrogen: [u64; 11]) -> Report
-    ensures { result ≡ report_at hydrogen oxygen nitrogen }
-{
-    Report {
-        hydrogen: section_of(hydrogen),
-        oxygen: section_of(oxygen),
-        nitrogen: section_of(nitrogen),
+// A section as a row, in which C has its figures.
+impl From<Section> for Row {
+    ghost from_gives = { λ section row. row ≡ row_of section };
+
+    fn from(section: Section) -> Row {
+        let smallest = section.smallest;
+        let largest = section.largest;
+        [
+            section.one,
+            section.split,
+            section.temperature_too_low,
+            section.temperature_too_high,
+            section.pressure_too_low,
+            section.pressure_too_high,
+            section.sum,
+            smallest.density,
+            smallest.line,
+            largest.density,
+            largest.line,
+        ]
+    }
+}
+
+impl From<Row> for Section {
+    ghost from_gives = { λ row section. section ≡ section_at row };
+
+    fn from(row: Row) -> Section {
+        let [
+            one,
+            split,
+            temperature_too_low,
+            temperature_too_high,
+            pressure_too_low,
+            pressure_too_high,
+            sum,
+            smallest,
+            first_of_smallest,
+            largest,
+            first_of_largest,
+        ] = row;
+        Section {
+            one,
+            split,
+            temperature_too_low,
+            temperature_too_high,
+            pressure_too_low,
+            pressure_too_high,
+            sum,
+            smallest: Reached {
+                density: smallest,
+                line: first_of_smallest,
+            },
+            largest: Reached {
+                density: largest,
+                line: first_of_largest,
+            },
+        }
+    }
+}
+
+// The report of three rows, hydrogen's first.
+impl From<[Row; 3]> for Report {
+    ghost from_gives = { λ rows report. report ≡ report_at (get_or rows 0 []) (get_or rows 1 []) (get_or rows 2 []) };
+
+    fn from(rows: [Row; 3]) -> Report {
+        let [hydrogen, oxygen, nitrogen] = rows;
+        Report {
+            hydrogen: Section::from(hydrogen),
+            oxygen: Section::from(oxygen),
+            nitrogen: Section::from(nitrogen),
+        }
     }
 }
 
@@ -146,71 +149,41 @@ pub fn report_of(hydrogen: [u64; 11], oxygen: [u64; 11], nitrogen: [u64; 11]) ->
 pub fn empty() -> Report
     ensures { result ≡ empty_report }
 {
-    report_of([0; 11], [0; 11], [0; 11])
+    Report::default()
 }
 
-// A refused state is counted, and has no density.
-fn add_reply(row: &mut [u64; 11], line: u64, reply: Figures)
-    ensures { row.new ≡ row_of (with_reply (section_at row.old) (record { line = line; figures = reply })) }
-{
-    let number = reply.number;
-    let density = reply.gas_density;
-    let one = counted(row[0], reply.kind, 1);
-    let split = counted(row[1], reply.kind, 2);
-    let temperature_too_low = counted(row[2], number, 21);
-    let temperature_too_high = counted(row[3], number, 22);
-    let pressure_too_low = counted(row[4], number, 31);
-    let pressure_too_high = counted(row[5], number, 32);
-    let mut sum = row[6];
-    let mut smallest = Reached {
-        density: row[7],
-        line: row[8],
-    };
-    let mut largest = Reached {
-        density: row[9],
-        line: row[10],
-    };
-    if number == 0 {
-        sum = plus(sum, density);
-        smallest = smallest_with(smallest, density, line);
-        largest = largest_with(largest, density, line);
+impl Section {
+    // A refused state is counted, and has no density.
+    fn add_reply(&mut self, line: u64, reply: Figures)
+        ensures { self.new ≡ with_reply self.old (record { line = line; figures = reply }) }
+    {
+        let density = reply.gas_density;
+        self.one = counted(self.one, reply.kind, 1);
+        self.split = counted(self.split, reply.kind, 2);
+        self.temperature_too_low = counted(self.temperature_too_low, reply.number, 21);
+        self.temperature_too_high = counted(self.temperature_too_high, reply.number, 22);
+        self.pressure_too_low = counted(self.pressure_too_low, reply.number, 31);
+        self.pressure_too_high = counted(self.pressure_too_high, reply.number, 32);
+        if reply.number == 0 {
+            let next = Reached { density, line };
+            self.sum = plus(self.sum, density);
+            self.smallest = self.smallest.further(next, density < self.smallest.density);
+            self.largest = self.largest.further(next, self.largest.density < density);
+        }
     }
-    *row = [
-        one,
-        split,
-        temperature_too_low,
-        temperature_too_high,
-        pressure_too_low,
-        pressure_too_high,
-        sum,
-        smallest.density,
-        smallest.line,
-        largest.density,
-        largest.line,
-    ];
 }
 
-// The step: the reply to a state of this fluid, on this line. Where there is no such fluid there is no section, and
-// nothing is added.
-pub fn add(
-    fluid: u64,
-    line: u64,
-    reply: Figures,
-    hydrogen: &mut [u64; 11],
-    oxygen: &mut [u64; 11],
-    nitrogen: &mut [u64; 11],
-)
-    ensures { AddsTo fluid (record { line = line; figures = reply }) hydrogen.old oxygen.old nitrogen.old hydrogen.new oxygen.new nitrogen.new }
-{
-    if fluid == 0 {
-        add_reply(hydrogen, line, reply);
-        return;
-    }
-    if fluid == 1 {
-        add_reply(oxygen, line, reply);
-        return;
-    }
-    if fluid == 2 {
-        add_reply(nitrogen, line, reply);
+impl Report {
+    // The step: the reply to a state of this fluid, on this line. Where there is no such fluid there is no section, and
+    // nothing is added.
+    pub fn add(&mut self, fluid: u64, line: u64, reply: Figures)
+        ensures { self.new ≡ adds_to self.old fluid (record { line = line; figures = reply }) }
+    {
+        match fluid {
+            0 => self.hydrogen.add_reply(line, reply),
+            1 => self.oxygen.add_reply(line, reply),
+            2 => self.nitrogen.add_reply(line, reply),
+            _ => {}
+        }
     }
 }

@@ -1,15 +1,15 @@
 -- Numbers put into a buffer, one behind another. Assumes nothing.
-use mathlib.Core.Path.{◌≡◌, refl, sym, ap, ◌∙◌}
+use mathlib.Core.Path.{◌≡◌, sym, ap, ◌∙◌}
 use mathlib.Core.List.{List, [], ◌∷◌, ◌++◌}
 use Prim.Native.Nat.{ℕ, suc, ◌+◌, ◌≤◌, ◌<◌}
 use native.Mathlib.Numerals.{add-one}
 use native.Mathlib.Omega.{arith}
-use lib.ListN.{length, get_or, drop, drop_of_length-le}
+use lib.ListN.{length, get_or, drop}
 use lib.Seq.{drop-cons}
 use Rattle.sheets.specs.Grammar.{space, digits}
 use Rattle.buffers.specs.Puts.{most_digits, Holds, Puts}
 use Rattle.buffers.proofs.Holding.{put_with_room}
-use Rattle.buffers.proofs.Underway.{Underway, none_put, part_fits, part_held, part_put, all_put, last_fits, last_held}
+use Rattle.buffers.proofs.Underway.{Underway, none_put, part_held, part_put, last_fits, last_held}
 use Rattle.texts.specs.Texts.{spaced, numbers_text}
 
 -- the space is said by an equation, so that another one is refused there
@@ -23,18 +23,11 @@ pub record SoFar (numbers before : List ℕ) (at taken : ℕ) (buffer : List ℕ
   pub within : taken ≤ length numbers
   pub underway : Underway (numbers_text numbers) before at (numbers_text (drop taken numbers)) buffer end
 
-pub none_taken : (numbers before : List ℕ) (at : ℕ) → at + length (numbers_text numbers) ≤ length before → SoFar numbers before at 0 before at
-none_taken numbers before at room = record { within = omega arith; underway = none_put (numbers_text numbers) before at room }
-
 module _ {numbers before : List ℕ} {at taken : ℕ} {buffer : List ℕ} {end : ℕ} (so_far : SoFar numbers before at taken buffer end) where
   module _ (left : taken < length numbers) where
     one_left : {number : ℕ} → number ≡ get_or numbers taken 0 → numbers_text (drop taken numbers) ≡ spaced number ++ numbers_text (drop (suc taken) numbers)
     one_left is_number =
         ap numbers_text (drop-cons numbers taken 0 left) ∙ ap (λ (n : ℕ). spaced n ++ numbers_text (drop (suc taken) numbers)) (sym is_number)
-
-    -- the number that comes has room
-    pub one_fits : end + length (spaced (get_or numbers taken 0)) ≤ length buffer
-    one_fits = part_fits so_far.underway (spaced (get_or numbers taken 0)) (numbers_text (drop (suc taken) numbers)) (one_left refl)
 
     -- the number is said by an equation, so that another one is refused there
     pub one_more_taken : {number next : ℕ} {after : List ℕ} → Holds (spaced number) buffer end after next → number ≡ get_or numbers taken 0 → SoFar numbers before at (taken + 1) after next
@@ -43,6 +36,3 @@ module _ {numbers before : List ℕ} {at taken : ℕ} {buffer : List ℕ} {end :
           within = omega arith;
           underway = rw (add-one taken) (part_held so_far.underway (spaced number) (numbers_text (drop (suc taken) numbers)) (one_left is_number) holds);
         }
-
-  pub all_taken : length numbers ≤ taken → Holds (numbers_text numbers) before at buffer end
-  all_taken all = all_put so_far.underway (ap numbers_text (drop_of_length-le numbers all))

@@ -3,12 +3,13 @@
 // it at a place, and answers the place behind it.
 #![tactic(auto)]
 
-ghost use Rattle.std.specs.Prelude.{◌+◌, ◌≤◌, length};
+ghost use Rattle.std.specs.Prelude.{◌≡◌, List, ℕ, ◌+◌, ◌≤◌, length, take};
 ghost use Rattle.buffers.specs.Puts.{Holds};
 ghost use Rattle.texts.specs.Texts.{spaced, numbers_text};
-ghost use Rattle.texts.specs.Buffer.{Written, Fitted};
+ghost use Rattle.texts.specs.Buffer.{longest_line, Written, Fitted};
 
 use buffers::{MOST_DIGITS, put, put_number};
+use std::marker::Model;
 
 // SPLIT and SHEET are the longest words.
 const LONGEST_WORD: usize = 5;
@@ -20,10 +21,26 @@ const MOST_NUMBERS: usize = 4;
 pub const LONGEST_LINE: usize = LONGEST_WORD + MOST_NUMBERS * (1 + MOST_DIGITS) + 1;
 
 // The line is the first bytes, as many as the length says. What lies behind them is not told.
-#[derive(Clone, Copy)]
+#[derive(Drop)]
 pub struct Text {
-    pub bytes: [u8; LONGEST_LINE],
-    pub length: usize,
+    bytes: [u8; LONGEST_LINE],
+    length: usize,
+}
+
+impl Model for Text {
+    ghost Value = { List ℕ };
+
+    ghost view = { λ text. take text.length text.bytes };
+
+    ghost invariant = { λ text. text.length ≤ longest_line };
+}
+
+impl Text {
+    pub fn bytes(&self) -> &[u8]
+        ensures { result.now ≡ self.now }
+    {
+        &self.bytes[..self.length]
+    }
 }
 
 fn put_spaced(buffer: &mut [u8], at: usize, number: u64) -> usize
@@ -39,8 +56,8 @@ fn put_numbers(buffer: &mut [u8], at: usize, numbers: &[u64]) -> usize
     ensures { Holds (numbers_text numbers.now) buffer.old at buffer.new result }
 {
     let mut end = at;
-    for taken in 0..numbers.len() {
-        end = put_spaced(buffer, end, numbers[taken]);
+    for &number in numbers {
+        end = put_spaced(buffer, end, number);
     }
     end
 }

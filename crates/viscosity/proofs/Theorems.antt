@@ -6,8 +6,8 @@ use Prim.Native.Nat.{ℕ, ◌≤◌, ◌<◌}
 use native.Mathlib.Nat.{le_of_lt, le_of_eq, eq-or-lt_of_le}
 use native.Mathlib.Decide.{dec_le}
 use native.Mathlib.Omega.{arith}
-use Rattle.viscosity.specs.declared.replies.ExcessFactor.{ExcessFactor}
-use Rattle.viscosity.specs.declared.replies.ExcessFactor.TheVariants.{Millionths, OutOfRange}
+use Rattle.std.specs.Prelude.{Result, Ok, Err}
+use Rattle.viscosity.specs.declared.replies.OutOfRange.{OutOfRange}
 use Rattle.viscosity.specs.declared.replies.ExcessFigures.{ExcessFigures}
 use Rattle.viscosity.specs.Factor.{squared, Factor, thinnest, densest, InRange}
 use Rattle.viscosity.specs.Replies.{answered, figures_of, Replies, answers, refuses}
@@ -30,26 +30,26 @@ factor_determined (answers factor inside is told) (refuses outside told') = absu
 factor_determined (refuses outside told) (answers other inside is told') = absurd (outside inside)
 factor_determined (refuses outside told) (refuses outside' told') = told ∙ sym told'
 
-pub figures_determine_reply : (reply other : ExcessFactor) → figures_of reply ≡ figures_of other → reply ≡ other
-figures_determine_reply (Millionths factor) (Millionths other) same = ap Millionths (ap factor_in same)
-figures_determine_reply (Millionths factor) OutOfRange same = absurd (omega (arith, ap number_in same))
-figures_determine_reply OutOfRange (Millionths other) same = absurd (omega (arith, ap number_in same))
-figures_determine_reply OutOfRange OutOfRange same = refl
+pub figures_determine_reply : (reply other : Result ℕ OutOfRange) → figures_of reply ≡ figures_of other → reply ≡ other
+figures_determine_reply (Ok factor) (Ok other) same = ap Ok (ap factor_in same)
+figures_determine_reply (Ok factor) (Err out) same = absurd (omega (arith, ap number_in same))
+figures_determine_reply (Err out) (Ok other) same = absurd (omega (arith, ap number_in same))
+figures_determine_reply (Err out) (Err out') same = refl
 
-pub reply_determined : (thousandths : ℕ) (reply other : ExcessFactor) → Replies thousandths (figures_of reply) → Replies thousandths (figures_of other) → reply ≡ other
+pub reply_determined : (thousandths : ℕ) (reply other : Result ℕ OutOfRange) → Replies thousandths (figures_of reply) → Replies thousandths (figures_of other) → reply ≡ other
 reply_determined thousandths reply other p q = figures_determine_reply reply other (factor_determined p q)
 
-pub figures_determined : (reply : ExcessFactor) {figures other : ExcessFigures} → figures ≡ figures_of reply → other ≡ figures_of reply → figures ≡ other
+pub figures_determined : (reply : Result ℕ OutOfRange) {figures other : ExcessFigures} → figures ≡ figures_of reply → other ≡ figures_of reply → figures ≡ other
 figures_determined reply p q = p ∙ sym q
 
-pub every_density_has_a_reply : (thousandths : ℕ) → (reply : ExcessFactor) × Replies thousandths (figures_of reply)
+pub every_density_has_a_reply : (thousandths : ℕ) → (reply : Result ℕ OutOfRange) × Replies thousandths (figures_of reply)
 every_density_has_a_reply thousandths = by_ends (dec_le thinnest thousandths) (dec_le thousandths densest)
   where
-    by_ends : Dec (thinnest ≤ thousandths) → Dec (thousandths ≤ densest) → (reply : ExcessFactor) × Replies thousandths (figures_of reply)
+    by_ends : Dec (thinnest ≤ thousandths) → Dec (thousandths ≤ densest) → (reply : Result ℕ OutOfRange) × Replies thousandths (figures_of reply)
     by_ends (yes from) (yes to) =
-        (Millionths _, answers _ (record { not_thinner = from; not_denser = to }) (factor_of thousandths refl refl refl) refl)
-    by_ends (yes from) (no above) = (OutOfRange, refuses (λ inside. above inside.not_denser) refl)
-    by_ends (no below) to = (OutOfRange, refuses (λ inside. below inside.not_thinner) refl)
+        (Ok _, answers _ (record { not_thinner = from; not_denser = to }) (factor_of thousandths refl refl refl) refl)
+    by_ends (yes from) (no above) = (Err (record {}), refuses (λ inside. above inside.not_denser) refl)
+    by_ends (no below) to = (Err (record {}), refuses (λ inside. below inside.not_thinner) refl)
 
 pub refused_carries_zero : {thousandths : ℕ} {figures : ExcessFigures} → Replies thousandths figures → (figures.number ≡ 0 → ⊥) → figures.factor ≡ 0
 refused_carries_zero (answers factor inside is told) refused = absurd (refused (ap number_in told))

@@ -1,7 +1,6 @@
 -- docs/RULES.md, "Excess viscosity": what comes back, the factor or refusal 15 with zero, and when.
-use Rattle.std.specs.Prelude.{◌≡◌, ℕ}
-use Rattle.viscosity.specs.declared.replies.ExcessFactor.{ExcessFactor}
-use Rattle.viscosity.specs.declared.replies.ExcessFactor.TheVariants.{Millionths, OutOfRange}
+use Rattle.std.specs.Prelude.{◌≡◌, ℕ, Result, Ok, Err}
+use Rattle.viscosity.specs.declared.replies.OutOfRange.{OutOfRange}
 use Rattle.viscosity.specs.declared.replies.ExcessFigures.{ExcessFigures}
 use Rattle.viscosity.specs.Factor.{Factor, InRange}
 
@@ -11,9 +10,9 @@ answered factor = record { number = 0; factor = factor }
 abbrev pub refused : ExcessFigures
 refused = record { number = 15; factor = 0 }
 
-abbrev pub figures_of : ExcessFactor → ExcessFigures
-figures_of (Millionths factor) = answered factor
-figures_of OutOfRange = refused
+abbrev pub figures_of : Result ℕ OutOfRange → ExcessFigures
+figures_of (Ok factor) = answered factor
+figures_of (Err out_of_range) = refused
 
 -- what a density is told
 pub data Replies (thousandths : ℕ) (figures : ExcessFigures) : Type 0 where

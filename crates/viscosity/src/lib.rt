@@ -11,8 +11,8 @@ ghost use Rattle.viscosity.specs.Factor.{squared};
 ghost use Rattle.viscosity.specs.Inside.{largest_to_square};
 ghost use Rattle.viscosity.specs.Replies.{Replies, figures_of};
 
-use crate::quartic::quartic;
-pub use replies::{ExcessFactor, ExcessFigures};
+use crate::quartic::Density;
+pub use replies::{ExcessFigures, OutOfRange};
 
 // The range, in thousandths, ends included. At a density of 0, where there is no excess, the printed
 // formula has one: it is of no use there.
@@ -24,6 +24,7 @@ const DENSEST: u64 = 3_000;
 const ONE: u64 = 1_000_000;
 
 // The square in millionths, rounded down.
+#[tactic(auto, unfolding(crate::specs::Factor::squared))]
 fn squared(y: u64) -> u64
     requires { y ≤ largest_to_square }
     ensures { result ≡ squared y }
@@ -31,18 +32,19 @@ fn squared(y: u64) -> u64
     y * y / ONE
 }
 
-// The fourth power of the quartic, less 1.
-pub fn excess_factor(thousandths: u64) -> ExcessFactor
+// The fourth power of the quartic, less 1, in millionths.
+#[tactic(auto, using(crate::proofs::Room::squares_fit, crate::proofs::Factors::fourth_is_above_one))]
+pub fn excess_factor(thousandths: u64) -> Result<u64, OutOfRange>
     ensures { Replies thousandths (figures_of result) }
 {
     if thousandths < THINNEST {
-        return ExcessFactor::OutOfRange;
+        return Err(OutOfRange);
     }
     if DENSEST < thousandths {
-        return ExcessFactor::OutOfRange;
+        return Err(OutOfRange);
     }
-    let y = quartic(thousandths);
+    let y = Density { thousandths }.quartic();
     let square = squared(y);
     let fourth_power = squared(square);
-    ExcessFactor::Millionths(fourth_power - ONE)
+    Ok(fourth_power - ONE)
 }

@@ -1,26 +1,24 @@
-// What is answered, and the number and figure for it.
+// The refusal of a density, and the number and figure for what is answered.
 ghost use Rattle.std.specs.Prelude.{◌≡◌};
 ghost use Rattle.viscosity.specs.Replies.{figures_of};
 
-#[derive(Clone, Copy)]
-pub enum ExcessFactor {
-    Millionths(u64),
-    OutOfRange,
-}
+#[derive(Clone, Copy, Debug, PartialEq, Eq)]
+pub struct OutOfRange;
 
+// As C gets them: a number, 0 for an answer, and zeros where refused.
 #[derive(Clone, Copy)]
 pub struct ExcessFigures {
     pub number: u64,
     pub factor: u64,
 }
 
-impl ExcessFactor {
-    pub fn figures(self) -> ExcessFigures
-        ensures { result ≡ figures_of self }
-    {
-        match self {
-            ExcessFactor::Millionths(factor) => ExcessFigures { number: 0, factor },
-            ExcessFactor::OutOfRange => ExcessFigures {
+impl From<Result<u64, OutOfRange>> for ExcessFigures {
+    ghost from_gives = { λ reply figures. figures ≡ figures_of reply };
+
+    fn from(reply: Result<u64, OutOfRange>) -> ExcessFigures {
+        match reply {
+            Ok(factor) => ExcessFigures { number: 0, factor },
+            Err(OutOfRange) => ExcessFigures {
                 number: 15,
                 factor: 0,
             },

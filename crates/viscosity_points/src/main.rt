@@ -4,11 +4,10 @@
 // fractions (host/checks/stored makes that again).
 #![tactic(auto)]
 
-ghost use Rattle.std.specs.Prelude.{◌≡◌};
+use std::io;
+use viscosity::ExcessFigures;
 
-const STDOUT_FILENO: i32 = 1;
-
-const DENSITIES: u64 = 4_001;
+const SMALL: u64 = 4_001;
 
 // No density of the range, though most of them are one to whoever keeps 16 or 32 bits, or 63, or takes the
 // highest bit for a sign.
@@ -31,46 +30,22 @@ const LARGE: [u64; 16] = [
     18_446_744_073_709_551_615,
 ];
 
-fn print_after_space(number: u64) {
-    io::write_all(STDOUT_FILENO, b" ");
-    io::print_decimal(STDOUT_FILENO, number);
+fn print_density(rt: &impl Print, thousandths: u64) -> io::Result<()> {
+    let figures = ExcessFigures::from(viscosity::excess_factor(thousandths));
+    println!(rt; "{thousandths} {} {}", figures.number, figures.factor)
 }
 
-fn print_density(thousandths: u64) {
-    let reply = viscosity::excess_factor(thousandths);
-    let figures = reply.figures();
-    io::print_decimal(STDOUT_FILENO, thousandths);
-    print_after_space(figures.number);
-    print_after_space(figures.factor);
-    io::write_all(STDOUT_FILENO, b"\n");
-}
-
-// Answers how many densities it asked for, as `print_large` does.
-fn print_small() -> u64
-    ensures { result ≡ 4001 }
-{
-    let mut thousandths = 0;
-    while thousandths < DENSITIES {
-        print_density(thousandths);
-        thousandths += 1;
+fn print_densities(rt: &impl Print) -> io::Result<()> {
+    for thousandths in 0..SMALL {
+        print_density(rt, thousandths)?;
     }
-    thousandths
-}
-
-fn print_large() -> u64
-    ensures { result ≡ 16 }
-{
-    let mut place = 0;
-    while place < LARGE.len() {
-        print_density(LARGE[place]);
-        place += 1;
+    for thousandths in LARGE {
+        print_density(rt, thousandths)?;
     }
-    place as u64
+    println!(rt; "{} densities", SMALL + LARGE.len() as u64)
 }
 
-fn main() {
-    let small = print_small();
-    let large = print_large();
-    io::print_decimal(STDOUT_FILENO, small + large);
-    io::write_all(STDOUT_FILENO, b" densities\n");
+fn main(rt: HostRuntime) {
+    // An output that fails ends the lines, and changes no status: the gate compares the lines.
+    let _ = print_densities(&rt);
 }

@@ -6,23 +6,25 @@ use Prim.Native.Nat.{ℕ, ◌+◌, ◌-◌, ◌≤◌, ◌<◌}
 use native.Mathlib.Omega.{arith}
 use native.Mathlib.Decide.{dec_le}
 use borrow.Author.Tests.{ne_eqb}
+use Rattle.std.specs.Prelude.{Result, Ok, Err}
 use Rattle.refusals.specs.Checks.{NoneOf, FirstOf}
 use Rattle.refusals.specs.declared.Refusal.TheVariants.{WalkCutShort}
 use Rattle.refusals.specs.Numbers.{number_of_refusal}
 use Rattle.refusals.proofs.Theorems.{number_determines_refusal, never_zero, First, first_or_none, tells_once, not_answered_is_refused, zero_is_answered}
 use Rattle.cubic.specs.Cubic.{N}
 use Rattle.cubic.proofs.Theorems.{gas_root_exists}
+use Rattle.slow_engine.specs.declared.Walked.{Walked}
 use Rattle.slow_engine.specs.Promise.{way}
 use Rattle.slow_engine.proofs.Theorems.{longest_way}
 use Rattle.fluid.specs.Checks.{state_checks}
-use Rattle.fluid.specs.Promise.{Reached, Reaches}
+use Rattle.fluid.specs.declared.coefficients.Reached.{Reached}
+use Rattle.fluid.specs.Promise.{Reaches}
 use Rattle.fluid.proofs.Accepting.{state_decided}
 use Rattle.fluid.proofs.Theorems.{reached_once, reached_exists}
-use Rattle.walks.specs.declared.replies.WalkReply.{WalkReply}
-use Rattle.walks.specs.declared.replies.WalkReply.TheVariants.{ToRoot, Refused}
+use Rattle.walks.specs.declared.replies.WalkRefusal.{WalkRefusal}
 use Rattle.walks.specs.declared.replies.WalkFigures.{WalkFigures}
 use Rattle.walks.specs.Checks.{GasRootByWalk, all_checks}
-use Rattle.walks.specs.Replies.{answered_with, refused_with, figures_of, Answered, Replies}
+use Rattle.walks.specs.Replies.{answered_with, refused_with, refused, figures_of, Answered, Replies}
 use Rattle.walks.proofs.Walking.{walked_once, tells_of_state, tells_limit, tells_root}
 
 abbrev number_in : WalkFigures → ℕ
@@ -35,14 +37,14 @@ abbrev values_in : WalkFigures → ℕ
 values_in figures = figures.values
 
 -- figures have one reply, and a reply one set of figures
-pub figures_determine_walk_reply : (r s : WalkReply) → figures_of r ≡ figures_of s → r ≡ s
-figures_determine_walk_reply (ToRoot gas values) (ToRoot gas' values') same = ap₂ ToRoot (ap root_in same) (ap values_in same)
-figures_determine_walk_reply (ToRoot gas values) (Refused refusal values') same = absurd (never_zero refusal (sym (ap number_in same)))
-figures_determine_walk_reply (Refused refusal values) (ToRoot gas values') same = absurd (never_zero refusal (ap number_in same))
-figures_determine_walk_reply (Refused refusal values) (Refused refusal' values') same =
-    ap₂ Refused (number_determines_refusal refusal refusal' (ap number_in same)) (ap values_in same)
+pub figures_determine_walk_reply : (r s : Result Walked WalkRefusal) → figures_of r ≡ figures_of s → r ≡ s
+figures_determine_walk_reply (Ok walk) (Ok walk') same = ap₂ (λ gas values. Ok (record { gas = gas; values = values })) (ap root_in same) (ap values_in same)
+figures_determine_walk_reply (Ok walk) (Err walk') same = absurd (never_zero walk'.refusal (sym (ap number_in same)))
+figures_determine_walk_reply (Err walk) (Ok walk') same = absurd (never_zero walk.refusal (ap number_in same))
+figures_determine_walk_reply (Err walk) (Err walk') same =
+    ap₂ (λ refusal values. Err (record { refusal = refusal; values = values })) (number_determines_refusal walk.refusal walk'.refusal (ap number_in same)) (ap values_in same)
 
-pub walk_figures_determined : (reply : WalkReply) {f g : WalkFigures} → f ≡ figures_of reply → g ≡ figures_of reply → f ≡ g
+pub walk_figures_determined : (reply : Result Walked WalkRefusal) {f g : WalkFigures} → f ≡ figures_of reply → g ≡ figures_of reply → f ≡ g
 walk_figures_determined reply p q = p ∙ sym q
 
 module _ (number millikelvin pascals : ℕ) where
@@ -55,7 +57,7 @@ module _ (number millikelvin pascals : ℕ) where
     pub told_once : (f g : WalkFigures) → Replies number millikelvin pascals limit f → Replies number millikelvin pascals limit g → f ≡ g
     told_once = tells_once (all_checks number millikelvin pascals limit) (λ refusal f g p q. p ∙ sym q) answered_once
 
-    pub walk_determined : (r s : WalkReply) → Replies number millikelvin pascals limit (figures_of r) → Replies number millikelvin pascals limit (figures_of s) → r ≡ s
+    pub walk_determined : (r s : Result Walked WalkRefusal) → Replies number millikelvin pascals limit (figures_of r) → Replies number millikelvin pascals limit (figures_of s) → r ≡ s
     walk_determined r s p q = figures_determine_walk_reply r s (told_once (figures_of r) (figures_of s) p q)
 
   -- an accepted state has a gas root, and so a way to it
@@ -119,15 +121,15 @@ module _ (number millikelvin pascals : ℕ) where
         (ap root_in told.1, λ other. ap values_in told.1 ∙ rw (ne_eqb told.0 11 (λ is_11. other (ap number_in told.1 ∙ is_11))) refl)
 
   -- and every walk has one
-  pub every_walk_has_a_reply : (limit : ℕ) → (reply : WalkReply) × Replies number millikelvin pascals limit (figures_of reply)
+  pub every_walk_has_a_reply : (limit : ℕ) → (reply : Result Walked WalkRefusal) × Replies number millikelvin pascals limit (figures_of reply)
   every_walk_has_a_reply limit = by_checks (first_or_none (state_checks number millikelvin pascals) (state_decided number millikelvin pascals))
     where
-      by_limit : {gas values : ℕ} → NoneOf (state_checks number millikelvin pascals) → GasRootByWalk number millikelvin pascals gas values → Dec (values ≤ limit) → (reply : WalkReply) × Replies number millikelvin pascals limit (figures_of reply)
-      by_limit {gas} {values} none by_walk (yes suffices) = (ToRoot gas values, tells_root number millikelvin pascals limit none by_walk suffices)
-      by_limit none by_walk (no f) = (Refused WalkCutShort limit, tells_limit number millikelvin pascals limit none by_walk (omega arith))
+      by_limit : {gas values : ℕ} → NoneOf (state_checks number millikelvin pascals) → GasRootByWalk number millikelvin pascals gas values → Dec (values ≤ limit) → (reply : Result Walked WalkRefusal) × Replies number millikelvin pascals limit (figures_of reply)
+      by_limit {gas} {values} none by_walk (yes suffices) = (Ok (record { gas = gas; values = values }), tells_root number millikelvin pascals limit none by_walk suffices)
+      by_limit none by_walk (no f) = (Err (record { refusal = WalkCutShort; values = limit }), tells_limit number millikelvin pascals limit none by_walk (omega arith))
 
-      by_checks : First (state_checks number millikelvin pascals) ⊎ NoneOf (state_checks number millikelvin pascals) → (reply : WalkReply) × Replies number millikelvin pascals limit (figures_of reply)
-      by_checks (inl first) = (Refused first.0 0, tells_of_state number millikelvin pascals limit (number_of_refusal first.0) first.1)
+      by_checks : First (state_checks number millikelvin pascals) ⊎ NoneOf (state_checks number millikelvin pascals) → (reply : Result Walked WalkRefusal) × Replies number millikelvin pascals limit (figures_of reply)
+      by_checks (inl first) = (Err (refused first.0), tells_of_state number millikelvin pascals limit (number_of_refusal first.0) first.1)
       by_checks (inr none) =
           let exists = way_exists none in
           by_limit none exists.1.1 (dec_le exists.1.0 limit)

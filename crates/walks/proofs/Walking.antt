@@ -8,10 +8,12 @@ use Rattle.refusals.specs.Checks.{NoneOf, FirstOf, refuses, answers}
 use Rattle.refusals.proofs.Lists.{number_on_list, none_both, first_front, first_behind}
 use Rattle.cubic.proofs.Theorems.{gas_root_unique, gas_root_exists}
 use Rattle.fluid.specs.Checks.{state_checks}
-use Rattle.fluid.specs.Promise.{Reached, Reaches}
+use Rattle.fluid.specs.declared.coefficients.Reached.{Reached}
+use Rattle.fluid.specs.Promise.{Reaches}
 use Rattle.fluid.proofs.Theorems.{reached_once}
-use Rattle.walks.specs.declared.replies.WalkReply.{WalkReply}
-use Rattle.walks.specs.declared.replies.WalkReply.TheVariants.{ToRoot, Refused}
+use Rattle.std.specs.Prelude.{Result, Ok, Err}
+use Rattle.slow_engine.specs.declared.Walked.{Walked}
+use Rattle.walks.specs.declared.replies.WalkRefusal.{WalkRefusal}
 use Rattle.walks.specs.Checks.{GasRootByWalk, CutShort, walk_checks}
 use Rattle.walks.specs.Replies.{answered_with, refused_with, figures_of, Replies}
 use Rattle.walks.specs.Inside.{WalksDown}
@@ -44,10 +46,10 @@ module _ (number millikelvin pascals : ℕ) where
           (record { gas = gas; values = values; by_walk = by_walk; is_figures = refl })
 
     -- as the slow engine ended
-    pub tells_as_walked : (reply : WalkReply) (reached : Reached) → NoneOf (state_checks number millikelvin pascals) → Reaches number millikelvin pascals reached → WalksDown reached.reduced.a reached.reduced.b limit reply → Replies number millikelvin pascals limit (figures_of reply)
-    tells_as_walked (ToRoot gas values) reached none reaches walked =
+    pub tells_as_walked : (reply : Result Walked WalkRefusal) (reached : Reached) → NoneOf (state_checks number millikelvin pascals) → Reaches number millikelvin pascals reached → WalksDown reached.reduced.a reached.reduced.b limit reply → Replies number millikelvin pascals limit (figures_of reply)
+    tells_as_walked (Ok walk) reached none reaches walked =
         tells_root none (record { reached = reached; reaches = reaches; is_gas = walked.is_gas; is_way = walked.is_way }) (omega (arith, walked.is_way, walked.suffices))
-    tells_as_walked (Refused refusal values) reached none reaches walked =
+    tells_as_walked (Err walk) reached none reaches walked =
         let gas = gas_root_exists reached.reduced.a reached.reduced.b in
         rw (walked.0, walked.1.is_limit)
         (tells_limit none (record { reached = reached; reaches = reaches; is_gas = gas.1; is_way = refl }) (walked.1.too_few gas.0 gas.1))

@@ -4,7 +4,8 @@ use Rattle.refusals.specs.Checks.{Check, ◌if◌}
 use Rattle.cubic.specs.Cubic.{GasRoot}
 use Rattle.slow_engine.specs.Promise.{way}
 use Rattle.fluid.specs.Checks.{state_checks}
-use Rattle.fluid.specs.Promise.{Reached, Reaches}
+use Rattle.fluid.specs.declared.coefficients.Reached.{Reached}
+use Rattle.fluid.specs.Promise.{Reaches}
 
 -- the gas root of a state, and how many values of g a walk from N + b down to it works out
 pub record GasRootByWalk (number millikelvin pascals gas values : ℕ) : Type 0 where

@@ -1,10 +1,11 @@
 -- docs/RULES.md, "The walk": what comes back of a walk, and when. Where it is cut short the count is the limit and everything else zero; any other
 -- refusal brings its number and zeros.
-use Rattle.std.specs.Prelude.{◌≡◌, cond, ℕ, eqb}
+use Rattle.std.specs.Prelude.{◌≡◌, cond, ℕ, eqb, Result, Ok, Err}
 use Rattle.refusals.specs.Checks.{Tells}
 use Rattle.refusals.specs.Numbers.{number_of_refusal}
-use Rattle.walks.specs.declared.replies.WalkReply.{WalkReply}
-use Rattle.walks.specs.declared.replies.WalkReply.TheVariants.{ToRoot, Refused}
+use Rattle.refusals.specs.declared.Refusal.{Refusal}
+use Rattle.slow_engine.specs.declared.Walked.{Walked}
+use Rattle.walks.specs.declared.replies.WalkRefusal.{WalkRefusal}
 use Rattle.walks.specs.declared.replies.WalkFigures.{WalkFigures}
 use Rattle.walks.specs.Checks.{GasRootByWalk, all_checks}
 
@@ -14,9 +15,13 @@ answered_with gas values = record { number = 0; gas_root = gas; values = values 
 abbrev pub refused_with : (refusal values : ℕ) → WalkFigures
 refused_with refusal values = record { number = refusal; gas_root = 0; values = values }
 
-abbrev pub figures_of : WalkReply → WalkFigures
-figures_of (ToRoot gas values) = answered_with gas values
-figures_of (Refused refusal values) = refused_with (number_of_refusal refusal) values
+-- a state that is refused is not walked in
+abbrev pub refused : Refusal → WalkRefusal
+refused refusal = record { refusal = refusal; values = 0 }
+
+abbrev pub figures_of : Result Walked WalkRefusal → WalkFigures
+figures_of (Ok walked) = answered_with walked.gas walked.values
+figures_of (Err walk) = refused_with (number_of_refusal walk.refusal) walk.values
 
 abbrev pub count_with : (limit refusal : ℕ) → ℕ
 count_with limit refusal = cond (eqb refusal 11) limit 0

@@ -8,38 +8,30 @@ ghost use Rattle.cubic.specs.Promise.{Within};
 ghost use Rattle.walks.specs.Replies.{Replies, figures_of};
 ghost use Rattle.walks.specs.Inside.{WalksDown};
 
-use fluid::Reduction;
 use refusals::Refusal;
-pub use replies::{WalkFigures, WalkReply};
-use slow_engine::Walked;
+pub use replies::{WalkFigures, WalkRefusal, WalkReply};
+use slow_engine::WalkError;
 
-// The coefficients of an accepted state are within the cubic's bounds, so the last arm is never met.
+// The coefficients of an accepted state are within the cubic's bounds.
 fn walk_down(a: u64, b: u64, limit: u64) -> WalkReply
     requires { Within a b }
     ensures { WalksDown a b limit result }
 {
     match slow_engine::walk(a, b, limit) {
-        Walked::ToRoot { gas, values } => WalkReply::ToRoot {
-            gas_root: gas,
-            values,
-        },
-        Walked::CutShort { values } => WalkReply::Refused {
+        Ok(walked) => Ok(walked),
+        Err(WalkError::CutShort { values }) => Err(WalkRefusal {
             refusal: Refusal::WalkCutShort,
             values,
-        },
-        Walked::OutOfBounds => WalkReply::Refused {
-            refusal: Refusal::WalkCutShort,
-            values: 0,
-        },
+        }),
+        Err(WalkError::OutOfBounds) => unreachable!(),
     }
 }
 
 // The walk begins where nothing refuses the state, so that 11 is told last.
+#[tactic(auto, using(fluid::proofs::Theorems::coefficients_at_most))]
 pub fn walk(fluid: u64, millikelvin: u64, pascals: u64, limit: u64) -> WalkReply
     ensures { Replies fluid millikelvin pascals limit (figures_of result) }
 {
-    match fluid::reduce(fluid, millikelvin, pascals) {
-        Reduction::Refused(refusal) => WalkReply::Refused { refusal, values: 0 },
-        Reduction::To { fluid: _, reduced } => walk_down(reduced.a, reduced.b, limit),
-    }
+    let reached = fluid::reduce(fluid, millikelvin, pascals)?;
+    walk_down(reached.reduced.a, reached.reduced.b, limit)
 }

@@ -3,8 +3,8 @@
 use mathlib.Core.Path.{◌≡◌, sym, ap, subst, ◌∙◌}
 use mathlib.Core.List.{List}
 use Prim.Native.Nat.{ℕ}
-use Rattle.parts.specs.declared.Brought.{Brought}
-use Rattle.parts.specs.declared.Brought.TheVariants as Brought
+use Rattle.std.specs.Prelude.{Option, Some, None}
+use Rattle.sheets.specs.declared.State.{State}
 use Rattle.parts.specs.declared.Taken.{Taken}
 use Rattle.parts.specs.Takes.{number_of}
 use Rattle.parts.proofs.Calls.{take_determined}
@@ -37,6 +37,6 @@ module _ (before : List ℕ) where
   pub nothing_brought_lays_zeros : {part : List ℕ} {number taken : ℕ} {after answer : List ℕ} → TakeAnswers before part number after taken answer → (number ≡ 0 → ⊥) → answer ≡ nine_zeros
   nothing_brought_lays_zeros {part} {number} {taken} {after} {answer} p some = by_brought p.reply.brought p.is_number p.brings
     where
-      by_brought : (brought : Brought) → number ≡ number_of brought p.reply.reader → AnswersBrought brought answer → answer ≡ nine_zeros
-      by_brought (Brought.State state) is brings = absurd (some is)
-      by_brought Brought.Nothing is brings = brings
+      by_brought : (brought : Option State) → number ≡ number_of brought p.reply.reader → AnswersBrought brought answer → answer ≡ nine_zeros
+      by_brought (Some state) is brings = absurd (some is)
+      by_brought None is brings = brings

@@ -8,19 +8,13 @@ use Rattle.readings.specs.Readers.{most_bytes}
 use Rattle.parts.specs.Takes.{number_of_reader}
 use Rattle.parts.specs.Served.{joined}
 use Rattle.reports.specs.declared.Reporting.{Reporting}
-use Rattle.reports.specs.declared.told.Reported.{Reported}
 use Rattle.reports.specs.Sheets.{figures_of}
-use Rattle.reports.specs.Parts.{TakesAll, over_here}
+use Rattle.reports.specs.Parts.{TakesAll}
 use Rattle.reports.proofs.Theorems.{report_determined, take_determined, refused_is_empty, whole_as_parts}
 use Rattle.kept_reports.specs.Rows.{rows_of, kept_rows, reporting_of}
 use Rattle.kept_reports.proofs.Theorems.{nothing_is_lost, zeros_are_the_start}
-use Rattle.laying.specs.Reports.{ReportLaid}
 use Rattle.laying.proofs.Theorems.{same_report_laid}
 use Rattle.woolyard.specs.Reports.{ReportAnswers, ReportTakeAnswers, ReportEndAnswers}
-
--- what is laid down of the reply that is owed
-pub end_answers : (kept : List (List ℕ)) {reporting : Reporting} {reply : Reported} {number : ℕ} {rows : List (List ℕ)} {place : ℕ} → reporting ≡ reporting_of kept → reply ≡ over_here reporting → ReportLaid reply number rows place → ReportEndAnswers kept number rows place
-end_answers kept {number = number} {rows} {place} is_kept is_reply laid = subst (λ (r : Reported). ReportLaid r number rows place) (is_reply ∙ ap over_here is_kept) laid
 
 pub report_call_determined : (bytes : List ℕ) {number number' place place' : ℕ} {rows rows' : List (List ℕ)} → ReportAnswers bytes number rows place → ReportAnswers bytes number' rows' place' → ((number ≡ number') × (rows ≡ rows')) × (place ≡ place')
 report_call_determined bytes p q = same_report_laid (report_determined bytes p.reply q.reply p.reports_as q.reports_as) p.laid q.laid

@@ -23,9 +23,7 @@ use Rattle.heat_table.specs.declared.replies.TableFigures.{TableFigures}
 use Rattle.heat_table.proofs.Theorems as heat_table
 use Rattle.viscosity.specs.declared.replies.ExcessFigures.{ExcessFigures}
 use Rattle.viscosity.proofs.Theorems as viscosity
-use Rattle.readings.specs.declared.Reading.{Reading}
-use Rattle.readings.specs.declared.LineReading.{LineReading}
-use Rattle.readings.specs.Figures.{sheet_figures, line_figures}
+use Rattle.readings.specs.Figures.{Reading, sheet_figures, LineReading, line_figures}
 use Rattle.readings.specs.Replies.{shown}
 use Rattle.readings.proofs.Theorems as replies
 use Rattle.measures.specs.Columns.{Columns}

@@ -1,9 +1,9 @@
 -- docs/RULES.md, "A sheet walked": what `woolyard_sheet_next` leaves with its caller. The sheet itself is only read.
-use Rattle.std.specs.Prelude.{◌≡◌, List, ◌∷◌, [], ℕ, get_or}
+use Rattle.std.specs.Prelude.{◌≡◌, List, ◌∷◌, [], ℕ, get_or, Ok, Err, Some, None}
 use Rattle.sheets.specs.declared.State.{State}
 use Rattle.sheets.specs.declared.Cursor.{Cursor}
-use Rattle.sheets.specs.declared.Next.{Next}
-use Rattle.sheets.specs.declared.Next.TheVariants as Next
+use Rattle.sheets.specs.declared.Fault.TheVariants.{Malformed, TooLong}
+use Rattle.sheets.specs.Reading.{Next}
 use Rattle.readings.specs.Figures.{next_figures}
 use Rattle.readings.specs.Replies.{NextIs}
 
@@ -23,23 +23,23 @@ three_zeros = 0 ∷ 0 ∷ 0 ∷ []
 
 -- 16 where no state line is left
 abbrev pub next_number : Next → ℕ
-next_number (Next.State state after) = 0
-next_number Next.Over = 16
-next_number (Next.Malformed place) = 6
-next_number Next.TooLong = 7
+next_number (Ok (Some line)) = 0
+next_number (Ok None) = 16
+next_number (Err (Malformed place)) = 6
+next_number (Err TooLong) = 7
 
 -- a line that is told moves the cursor behind it, and nothing else moves it
 abbrev pub cursor_after : (before : List ℕ) → Next → List ℕ
-cursor_after before (Next.State state after) = cursor_numbers after
-cursor_after before Next.Over = before
-cursor_after before (Next.Malformed place) = before
-cursor_after before Next.TooLong = before
+cursor_after before (Ok (Some line)) = cursor_numbers line.after
+cursor_after before (Ok None) = before
+cursor_after before (Err (Malformed place)) = before
+cursor_after before (Err TooLong) = before
 
 abbrev pub next_state : Next → List ℕ
-next_state (Next.State state after) = state_numbers state
-next_state Next.Over = three_zeros
-next_state (Next.Malformed place) = three_zeros
-next_state Next.TooLong = three_zeros
+next_state (Ok (Some line)) = state_numbers line.state
+next_state (Ok None) = three_zeros
+next_state (Err (Malformed place)) = three_zeros
+next_state (Err TooLong) = three_zeros
 
 pub record NextAnswers (bytes before : List ℕ) (number : ℕ) (after state : List ℕ) : Type 0 where
   pub reply : Next

@@ -2,8 +2,7 @@
 use Rattle.std.specs.Prelude.{◌≡◌, List, ℕ}
 use Rattle.parts.specs.Takes.{number_of_reader}
 use Rattle.reports.specs.declared.Reporting.{Reporting}
-use Rattle.reports.specs.declared.told.Reported.{Reported}
-use Rattle.reports.specs.Sheets.{figures_of, ReportsAs}
+use Rattle.reports.specs.Sheets.{Reported, figures_of, ReportsAs}
 use Rattle.reports.specs.Parts.{TakesPart, over_here}
 use Rattle.kept_reports.specs.Rows.{kept_rows, reporting_of}
 use Rattle.laying.specs.Reports.{ReportLaid}

@@ -1,10 +1,8 @@
 -- docs/RULES.md, "Sheets": what `woolyard_sheet` and `woolyard_sheet_line` leave with their caller. The sheet itself is only read.
 use Rattle.std.specs.Prelude.{◌≡◌, List, ◌∷◌, [], ℕ, length}
-use Rattle.readings.specs.declared.Reading.{Reading}
-use Rattle.readings.specs.declared.LineReading.{LineReading}
 use Rattle.readings.specs.declared.SheetFigures.{SheetFigures}
 use Rattle.readings.specs.declared.LineFigures.{LineFigures}
-use Rattle.readings.specs.Figures.{sheet_figures, line_figures}
+use Rattle.readings.specs.Figures.{Reading, sheet_figures, LineReading, line_figures}
 use Rattle.readings.specs.Replies.{ReadsAs, LineReadsAs, shown}
 
 -- state lines, place, length of the faulty line

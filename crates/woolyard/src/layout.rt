@@ -4,6 +4,7 @@ ghost use Rattle.readings.specs.Figures.{sheet_figures};
 ghost use Rattle.readings.specs.Replies.{ReadsAs, shown};
 
 use readings::Reading;
+use sheets::Fault;
 
 // The faulty line is looked for only where there is one, so that a good sheet is read once.
 pub(crate) fn faulty_line_length(sheet: &[u8], reading: Reading) -> usize
@@ -11,8 +12,8 @@ pub(crate) fn faulty_line_length(sheet: &[u8], reading: Reading) -> usize
     ensures { result ≡ length (shown sheet.now (sheet_figures reading)) }
 {
     match reading {
-        Reading::StateLines(_) => 0,
-        Reading::Malformed { place: _ } => reader::faulty_line(sheet).len(),
-        Reading::TooLong => 0,
+        Ok(_) => 0,
+        Err(Fault::Malformed { place: _ }) => reader::faulty_line(sheet).len(),
+        Err(Fault::TooLong) => 0,
     }
 }

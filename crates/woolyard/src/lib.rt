@@ -24,9 +24,15 @@ ghost use Rattle.measures.specs.Columns.{fluids_of};
 ghost use Rattle.woolyard.specs.Writes.{WriteAnswers};
 
 use crate::layout::faulty_line_length;
+use claims::ClaimsFigures;
 use heat::HeatCapacity;
+use heat_table::TableFigures;
 use laying::{lay_figures, lay_line, lay_report, lay_side};
-use sheets::{Cursor, Next};
+use measures::{Columns, Lists, WriteFigures};
+use readings::{LineFigures, SheetFigures};
+use sheets::{Cursor, Fault};
+use state::{BandFigures, WalkFigures};
+use viscosity::ExcessFigures;
 
 // The header's WOOLYARD_ABI. A caller that was compiled with another number would misread what is answered.
 const ABI: u64 = 1;
@@ -112,7 +118,7 @@ pub extern "C" fn woolyard_walk(
     ensures { WalkAnswers fluid millikelvin pascals limit result walked.new }
 {
     let reply = state::walk(fluid, millikelvin, pascals, limit);
-    let told = reply.figures();
+    let told = WalkFigures::from(reply);
     *walked = [told.gas_root, told.values];
     told.number
 }
@@ -130,7 +136,7 @@ pub extern "C" fn woolyard_band(
     ensures { BandAnswers fluid millikelvin pascals lower upper result roots.new }
 {
     let reply = state::band(fluid, millikelvin, pascals, lower, upper);
-    let told = reply.figures();
+    let told = BandFigures::from(reply);
     *roots = [told.at_lower, told.at_upper];
     told.number
 }
@@ -149,7 +155,7 @@ pub extern "C" fn woolyard_claims(
     ensures { ClaimsAnswers (lists_of fluids.now millikelvin.now pascals.now sides.now roots.now) result claim.new }
 {
     let reply = claims::check(fluids, millikelvin, pascals, sides, roots);
-    let told = reply.figures();
+    let told = ClaimsFigures::from(reply);
     *claim = told.claim;
     told.number
 }
@@ -177,7 +183,7 @@ pub extern "C" fn woolyard_heat_table(millikelvin: u64, heat: &mut u64) -> u64
     ensures { HeatTableAnswers millikelvin result heat.new }
 {
     let reply = heat_table::ideal_heat_capacity(millikelvin);
-    let told = reply.figures();
+    let told = TableFigures::from(reply);
     *heat = told.heat;
     told.number
 }
@@ -188,7 +194,7 @@ pub extern "C" fn woolyard_viscosity(thousandths: u64, factor: &mut u64) -> u64
     ensures { ViscosityAnswers thousandths result factor.new }
 {
     let reply = viscosity::excess_factor(thousandths);
-    let told = reply.figures();
+    let told = ExcessFigures::from(reply);
     *factor = told.factor;
     told.number
 }
@@ -200,7 +206,7 @@ pub extern "C" fn woolyard_sheet(sheet: &[u8], reading: &mut [u64; 3]) -> u64
     ensures { SheetAnswers sheet.now result reading.new }
 {
     let reply = reader::read(sheet);
-    let told = reply.figures();
+    let told = SheetFigures::from(reply);
     let line_length = faulty_line_length(sheet, reply);
     *reading = [told.state_lines, told.place as u64, line_length as u64];
     told.number
@@ -212,7 +218,7 @@ pub extern "C" fn woolyard_sheet_line(sheet: &[u8], k: u64, state: &mut [u64; 3]
     ensures { LineAnswers sheet.now k result state.new }
 {
     let reply = reader::state_line(sheet, k);
-    let told = reply.figures();
+    let told = LineFigures::from(reply);
     *state = [told.fluid, told.millikelvin, told.pascals];
     told.number
 }
@@ -227,24 +233,29 @@ pub extern "C" fn woolyard_sheet_next(
 ) -> u64
     ensures { NextAnswers sheet.now cursor.old result cursor.new state.new }
 {
-    let begun = cursor[0];
-    let left = cursor[1];
-    let place = cursor[2] as usize;
-    match reader::next(sheet, Cursor { begun, left, place }) {
-        Next::State { state: line, after } => {
+    let [begun, left, place] = *cursor;
+    let from = Cursor {
+        begun,
+        left,
+        place: place as usize,
+    };
+    match reader::next(sheet, from) {
+        Ok(Some(told)) => {
+            let line = told.state;
+            let after = told.after;
             *cursor = [after.begun, after.left, after.place as u64];
             *state = [line.fluid, line.millikelvin, line.pascals];
             0
         }
-        Next::Over => {
+        Ok(None) => {
             *state = [0; 3];
             16
         }
-        Next::Malformed { place: _ } => {
+        Err(Fault::Malformed { place: _ }) => {
             *state = [0; 3];
             6
         }
-        Next::TooLong => {
+        Err(Fault::TooLong) => {
             *state = [0; 3];
             7
         }
@@ -264,13 +275,11 @@ pub extern "C" fn woolyard_parts_take(
 {
     let before = kept::reader(parts);
     let reply = parts::take(before, part);
-    let brought = reply.brought;
     let after = reply.reader;
-    let number = reply.number();
     *parts = kept::numbers(after);
     *taken = reply.taken as u64;
-    lay_line(brought, answer);
-    number
+    lay_line(reply.brought, answer);
+    reply.number()
 }
 
 // What is to be said of that sheet if it is over here: the array gets the number of its state lines, or the place of
@@ -280,7 +289,7 @@ pub extern "C" fn woolyard_parts_end(parts: &[u64; 8], reading: &mut [u64; 2]) -
     ensures { EndAnswers parts.now result reading.new }
 {
     let reader = kept::reader(parts);
-    let told = parts::end(reader).figures();
+    let told = SheetFigures::from(parts::end(reader));
     *reading = [told.state_lines, told.place as u64];
     told.number
 }
@@ -302,10 +311,8 @@ pub extern "C" fn woolyard_report_take(reporting: &mut [[u64; 11]; 4], part: &[u
 {
     let before = kept_reports::reporting(reporting);
     let after = reports::take(before, part);
-    let rows = kept_reports::kept_rows(after);
-    let reader = after.reader;
-    *reporting = rows;
-    reader.number()
+    *reporting = kept_reports::kept_rows(after);
+    parts::number(after.reader)
 }
 
 // The report of that sheet if it is over here.
@@ -336,16 +343,22 @@ pub extern "C" fn woolyard_write_sheet(
 ) -> u64
     ensures { WriteAnswers (fluids_of hydrogen_millikelvin.now hydrogen_pascals.now oxygen_millikelvin.now oxygen_pascals.now nitrogen_millikelvin.now nitrogen_pascals.now) buffer.old result length.new buffer.new }
 {
-    let reply = writer::write(
-        hydrogen_millikelvin,
-        hydrogen_pascals,
-        oxygen_millikelvin,
-        oxygen_pascals,
-        nitrogen_millikelvin,
-        nitrogen_pascals,
-        buffer,
-    );
-    let told = reply.figures();
+    let lists = Lists {
+        hydrogen: Columns {
+            millikelvin: hydrogen_millikelvin,
+            pascals: hydrogen_pascals,
+        },
+        oxygen: Columns {
+            millikelvin: oxygen_millikelvin,
+            pascals: oxygen_pascals,
+        },
+        nitrogen: Columns {
+            millikelvin: nitrogen_millikelvin,
+            pascals: nitrogen_pascals,
+        },
+    };
+    let reply = writer::write(lists, buffer);
+    let told = WriteFigures::from(reply);
     *length = told.length as u64;
     told.number
 }

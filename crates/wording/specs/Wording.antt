@@ -1,14 +1,14 @@
 -- docs/RULES.md, "What the programs print": for a state its kind, gas root and gas density, and where the roots are two, dense root and dense
 -- density behind them, or NO and the number; and for a refused sheet SHEET, the number and the place.
-use Rattle.std.specs.Prelude.{cond, List, [], ◌∷◌, ◌++◌, ℕ, eqb}
-use Rattle.replies.specs.declared.Reply.{Reply}
+use Rattle.std.specs.Prelude.{cond, List, [], ◌∷◌, ◌++◌, ℕ, eqb, Result}
+use Rattle.refusals.specs.declared.Refusal.{Refusal}
+use Rattle.replies.specs.declared.Answer.{Answer}
 use Rattle.replies.specs.declared.Figures.{Figures}
 use Rattle.replies.specs.Figures.{figures_of}
 use Rattle.state.specs.Replies.{Replies}
 use Rattle.sheets.specs.declared.State.{State}
-use Rattle.readings.specs.declared.Reading.{Reading}
 use Rattle.readings.specs.declared.SheetFigures.{SheetFigures}
-use Rattle.readings.specs.Figures.{sheet_figures}
+use Rattle.readings.specs.Figures.{Reading, sheet_figures}
 use Rattle.texts.specs.Texts.{Line}
 
 -- the words, in ASCII
@@ -40,7 +40,7 @@ FiguresText figures text =
 
 -- the line of a state is that of the reply to it
 pub record LineText (state : State) (text : List ℕ) : Type 0 where
-  pub reply : Reply
+  pub reply : Result Answer Refusal
   pub replies : Replies state.fluid state.millikelvin state.pascals (figures_of reply)
   pub is_text : FiguresText (figures_of reply) text
 

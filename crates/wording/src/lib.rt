@@ -6,38 +6,32 @@
 ghost use Rattle.texts.specs.Buffer.{Written};
 ghost use Rattle.wording.specs.Wording.{LineText, FaultText};
 
-use readings::Reading;
+use readings::{Reading, SheetFigures};
+use replies::Answer;
 use sheets::State;
 use texts::{Text, line};
-
-// The kind of a state whose two roots are equal, among the figures of a reply.
-const ONE: u64 = 1;
 
 pub fn state_text(state: State) -> Text
     ensures { Written (LineText state) result }
 {
-    let reply = state::ask(state.fluid, state.millikelvin, state.pascals);
-    let figures = reply.figures();
-    let number = figures.number;
-    let kind = figures.kind;
-    let gas_root = figures.gas_root;
-    let gas_density = figures.gas_density;
-    let dense_root = figures.dense_root;
-    let dense_density = figures.dense_density;
-    if number != 0 {
-        return line(b"NO", &[number]);
+    match state::ask(state.fluid, state.millikelvin, state.pascals) {
+        Ok(Answer::One { root, density }) => line(b"ONE", &[root, density]),
+        Ok(
+            Answer::Split {
+                gas,
+                dense,
+                gas_density,
+                dense_density,
+            },
+        ) => line(b"SPLIT", &[gas, gas_density, dense, dense_density]),
+        Err(refusal) => line(b"NO", &[refusal.number()]),
     }
-    if kind == ONE {
-        return line(b"ONE", &[gas_root, gas_density]);
-    }
-    let both_sides = [gas_root, gas_density, dense_root, dense_density];
-    line(b"SPLIT", &both_sides)
 }
 
 pub fn fault_text(fault: Reading) -> Text
     ensures { Written (FaultText fault) result }
 {
-    let figures = fault.figures();
+    let figures = SheetFigures::from(fault);
     let place = figures.place as u64;
     line(b"SHEET", &[figures.number, place])
 }

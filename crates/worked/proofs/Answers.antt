@@ -1,7 +1,8 @@
--- The test of an answered row: the state is within its ranges, the row's t, p, s, a and b are the state's, the reply's roots are those of
+-- The test of an answered row: the state is within its ranges, the row's t, p, s, a and b are the state's, the answer's roots are those of
 -- a and b, and its densities are those of the roots. Assumes nothing.
 use mathlib.Core.Path.{refl, ap₂}
 use Prim.Native.Nat.{ℕ}
+use Rattle.std.specs.Prelude.{Ok}
 use Rattle.refusals.specs.Checks.{NoneOf, answers}
 use Rattle.refusals.proofs.Lists.{none_both}
 use Rattle.books.specs.Layouts.{last_slot}
@@ -16,13 +17,13 @@ use Rattle.squares.specs.SquareRoot.{SquareRoot}
 use Rattle.fluid.specs.Reduced.{Reduces}
 use Rattle.fluid.proofs.Accepting.{passes}
 use Rattle.squares.proofs.Squares.{square_root}
-use Rattle.replies.specs.declared.Reply.{Reply}
-use Rattle.replies.specs.declared.Reply.TheVariants.{One, Split, Refused}
+use Rattle.replies.specs.declared.Answer.{Answer}
+use Rattle.replies.specs.declared.Answer.TheVariants.{One, Split}
 use Rattle.replies.specs.declared.Figures.{Figures}
 use Rattle.replies.specs.Figures.{answered_with, figures_of}
 use Rattle.state.specs.Replies.{Answered}
 use Rattle.worked.specs.Rows.{Span, ForEach, in_book, Replied, RightAnswer}
-use Rattle.worked.proofs.Tests.{Tested, by, ◌with◌, never, equal, at_most, below}
+use Rattle.worked.proofs.Tests.{Tested, by, ◌with◌, equal, at_most, below}
 use Rattle.worked.proofs.Spans.{for_each, then_each}
 use Rattle.worked.proofs.Roots.{roots}
 
@@ -68,14 +69,13 @@ module _ (fluid : Fluid) (millikelvin pascals : ℕ) where
         with accepted with tested with for_each slots placed
 
   module _ (reduced : Reduced) (slots : Span) where
-    abbrev pub replies : (reply : Reply) → Tested (ForEach slots (λ slot. Replied (number_of fluid) millikelvin pascals slot (figures_of reply)))
+    abbrev pub replies : (answer : Answer) → Tested (ForEach slots (λ slot. Replied (number_of fluid) millikelvin pascals slot (figures_of (Ok answer))))
     replies (One root grams) = in_place slots _ (is_answer reduced ONE root root grams grams)
     replies (Split gas dense gas_density dense_density) = in_place slots _ (is_answer reduced SPLIT gas dense gas_density dense_density)
-    replies (Refused refusal) = never
 
-  module _ (critical_temperature critical_pressure : ℕ) (reduced : Reduced) (slots : Span) (reply : Reply) where
-    abbrev pub right_answer : Tested (RightAnswer fluid millikelvin pascals critical_temperature critical_pressure reduced slots reply)
+  module _ (critical_temperature critical_pressure : ℕ) (reduced : Reduced) (slots : Span) (answer : Answer) where
+    abbrev pub right_answer : Tested (RightAnswer fluid millikelvin pascals critical_temperature critical_pressure reduced slots answer)
     right_answer =
         by (λ temperature pressure reduces replies.
         record { is_critical_millikelvin = temperature; is_critical_pascals = pressure; reduces = reduces; replies = replies })
-        with equal _ _ with equal _ _ with reduces reduced with replies reduced slots reply
+        with equal _ _ with equal _ _ with reduces reduced with replies reduced slots answer

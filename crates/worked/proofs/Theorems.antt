@@ -15,8 +15,8 @@ use Rattle.worked.proofs.Answers.{right_answer}
 use Rattle.worked.proofs.Refusals.{right_refusal}
 
 abbrev pub tested : (row : Row) → Tested (Right row)
-tested (answered fluid millikelvin pascals critical_temperature critical_pressure reduced slots reply) =
-    right_answer fluid millikelvin pascals critical_temperature critical_pressure reduced slots reply
+tested (answered fluid millikelvin pascals critical_temperature critical_pressure reduced slots answer) =
+    right_answer fluid millikelvin pascals critical_temperature critical_pressure reduced slots answer
 tested (value a b z is) = same (g a b z) is
 tested (refused number millikelvin pressures slots refusal) = right_refusal number millikelvin refusal pressures slots
 

@@ -1,5 +1,5 @@
 -- docs/RULES.md, "Points worked through": what a row of the table says of the definitions of `cubic`, `fluid` and `state`.
-use Rattle.std.specs.Prelude.{◌≡◌, List, [], ◌∷◌, ℕ, ◌≤◌, ℤ}
+use Rattle.std.specs.Prelude.{◌≡◌, List, [], ◌∷◌, ℕ, ◌≤◌, ℤ, Ok}
 use Rattle.refusals.specs.Checks.{Check}
 use Rattle.books.specs.Layouts.{slot_checks}
 use Rattle.books.specs.Bytes.{in_bytes}
@@ -8,7 +8,7 @@ use Rattle.fluid.specs.declared.choice.Fluid.{Fluid}
 use Rattle.fluid.specs.declared.coefficients.Reduced.{Reduced}
 use Rattle.fluid.specs.Figures.{number_of, critical_millikelvin, critical_pascals}
 use Rattle.fluid.specs.Reduced.{Reduces}
-use Rattle.replies.specs.declared.Reply.{Reply}
+use Rattle.replies.specs.declared.Answer.{Answer}
 use Rattle.replies.specs.declared.Figures.{Figures}
 use Rattle.replies.specs.Figures.{refused_with, figures_of}
 use Rattle.state.specs.Replies.{Told}
@@ -23,10 +23,10 @@ ForEach (only n) Holds = Holds n
 ForEach (up_to n) Holds = (k : ℕ) → k ≤ n → Holds k
 ForEach all Holds = (k : ℕ) → Holds k
 
--- An answered row is a state with its critical constants, its coefficients, the slots and the reply; a value row is g(z) for an a and a b;
+-- An answered row is a state with its critical constants, its coefficients, the slots and the answer; a value row is g(z) for an a and a b;
 -- a refused row has the fluid's number, the temperature, the pressures, the slots and the number of the refusal.
 pub data Row : Type 0 where
-  answered : (fluid : Fluid) (millikelvin pascals critical_temperature critical_pressure : ℕ) → Reduced → (slots : Span) → Reply → Row
+  answered : (fluid : Fluid) (millikelvin pascals critical_temperature critical_pressure : ℕ) → Reduced → (slots : Span) → Answer → Row
   value : (a b z : ℕ) → ℤ → Row
   refused : (number millikelvin : ℕ) (pressures slots : Span) (refusal : ℕ) → Row
 
@@ -38,19 +38,19 @@ in_book slot = slot_checks in_bytes slot 192
 abbrev pub Replied : (number millikelvin pascals slot : ℕ) → Figures → Type 0
 Replied number millikelvin pascals slot = Told number millikelvin pascals (in_book slot)
 
-pub record RightAnswer (fluid : Fluid) (millikelvin pascals critical_temperature critical_pressure : ℕ) (reduced : Reduced) (slots : Span) (reply : Reply) : Type 0 where
+pub record RightAnswer (fluid : Fluid) (millikelvin pascals critical_temperature critical_pressure : ℕ) (reduced : Reduced) (slots : Span) (answer : Answer) : Type 0 where
   pub is_critical_millikelvin : critical_temperature ≡ critical_millikelvin fluid millikelvin
   pub is_critical_pascals : critical_pressure ≡ critical_pascals fluid millikelvin
   pub reduces : Reduces fluid millikelvin pascals reduced
-  pub replies : ForEach slots (λ slot. Replied (number_of fluid) millikelvin pascals slot (figures_of reply))
+  pub replies : ForEach slots (λ slot. Replied (number_of fluid) millikelvin pascals slot (figures_of (Ok answer)))
 
 abbrev pub RightRefusal : (number millikelvin : ℕ) (pressures slots : Span) (refusal : ℕ) → Type 0
 RightRefusal number millikelvin pressures slots refusal =
     ForEach pressures (λ pascals. ForEach slots (λ slot. Replied number millikelvin pascals slot (refused_with refusal)))
 
 abbrev pub Right : Row → Type 0
-Right (answered fluid millikelvin pascals critical_temperature critical_pressure reduced slots reply) =
-    RightAnswer fluid millikelvin pascals critical_temperature critical_pressure reduced slots reply
+Right (answered fluid millikelvin pascals critical_temperature critical_pressure reduced slots answer) =
+    RightAnswer fluid millikelvin pascals critical_temperature critical_pressure reduced slots answer
 Right (value a b z is) = g a b z ≡ is
 Right (refused number millikelvin pressures slots refusal) = RightRefusal number millikelvin pressures slots refusal
 

@@ -3,7 +3,7 @@
 -- them, and where they name no slot for every slot that leads to the same reply, which for an answer is every one up to 63.
 use Rattle.std.specs.Prelude.{List, [], ◌∷◌, pos, neg_ℤ}
 use Rattle.fluid.specs.declared.choice.Fluid.TheVariants.{Hydrogen, Oxygen, Nitrogen}
-use Rattle.replies.specs.declared.Reply.TheVariants.{One, Split}
+use Rattle.replies.specs.declared.Answer.TheVariants.{One, Split}
 use Rattle.worked.specs.Rows.{Row, answered, value, refused, only, up_to, all}
 
 unfoldable pub table : List Row

@@ -1,10 +1,9 @@
 -- A state line and a section put into a buffer that has room for them. Assumes nothing.
 use mathlib.Core.Path.{◌≡◌, refl, sym, ap, ap₂, ◌∙◌}
 use mathlib.Core.List.{List, [], ◌∷◌, ◌++◌, append_assoc, append-nil}
-use Prim.Native.Nat.{ℕ, suc, ◌+◌, ◌≤◌, ◌<◌}
-use native.Mathlib.Numerals.{add-one}
+use Prim.Native.Nat.{ℕ}
 use native.Mathlib.Omega.{arith}
-use lib.ListN.{length, get_or}
+use lib.ListN.{length}
 use Rattle.buffers.specs.Puts.{most_digits, Holds, Puts}
 use Rattle.buffers.proofs.Digits.{digits_are_decimal}
 use Rattle.buffers.proofs.Underway.{Underway, none_put, part_fits, part_held, part_put, all_put, last_fits, last_held}
@@ -12,7 +11,7 @@ use Rattle.sheets.specs.Grammar.{line_end, space, digits, decimal, pair_text, st
 use Rattle.measures.specs.Columns.{paired}
 use Rattle.measures.specs.Inside.{MakesSection, state_line}
 use Rattle.writer.specs.Inside.{StateFits, SectionFits}
-use Rattle.measures.proofs.Sections.{left_pairs, count_first, none_left, line_first, next_writable}
+use Rattle.measures.proofs.Sections.{count_first, no_lines, first_line, next_writable, others_make_section}
 
 -- two numbers, with a space between them and the line's end behind; both bytes are said by equations, so that other ones are refused there
 module _ {temperature pressure at : ℕ} {before with_temperature with_space with_pressure after gap last : List ℕ} {temperature_end pressure_start pressure_end next : ℕ} where
@@ -31,34 +30,29 @@ module _ {temperature pressure at : ℕ} {before with_temperature with_space wit
           ∙ ap₂ (λ (g l : List ℕ). digits most_digits temperature ++ (g ++ (digits most_digits pressure ++ l))) (sym is_gap) (sym is_last)
 
 -- what the loop keeps: the lines of the states that are left are what is left to put
-pub record Written (millikelvin pascals before : List ℕ) (at taken : ℕ) (buffer : List ℕ) (end : ℕ) : Type 0 where
-  pub lists : MakesSection millikelvin pascals
-  pub within : taken ≤ length millikelvin
-  pub underway : Underway (state_lines (paired millikelvin pascals)) before at (state_lines (left_pairs millikelvin pascals taken)) buffer end
+pub record Written (millikelvin pascals before : List ℕ) (at : ℕ) (left_millikelvin left_pascals buffer : List ℕ) (end : ℕ) : Type 0 where
+  pub lists : MakesSection left_millikelvin left_pascals
+  pub underway : Underway (state_lines (paired millikelvin pascals)) before at (state_lines (paired left_millikelvin left_pascals)) buffer end
 
-module _ {millikelvin pascals before : List ℕ} {at taken : ℕ} {buffer : List ℕ} {end : ℕ} (written : Written millikelvin pascals before at taken buffer end) where
-  module _ (below : taken < length millikelvin) where
-    abbrev next_line : List ℕ
-    next_line = state_line (get_or millikelvin taken 0) (get_or pascals taken 0)
-
-    abbrev other_lines : List ℕ
-    other_lines = state_lines (left_pairs millikelvin pascals (suc taken))
-
+module _ {millikelvin pascals before : List ℕ} {at : ℕ} where
+  module _ {temperature pressure : ℕ} {left_millikelvin left_pascals buffer : List ℕ} {end : ℕ} (written : Written millikelvin pascals before at (temperature ∷ left_millikelvin) (pressure ∷ left_pascals) buffer end) where
     -- the line that comes has room
-    pub state_fits : StateFits (get_or millikelvin taken 0) (get_or pascals taken 0) buffer end
+    pub state_fits : StateFits temperature pressure buffer end
     state_fits =
-        record { writable = next_writable written.lists below; room = part_fits written.underway next_line other_lines (line_first written.lists below) }
-
-    pub state_written : {after : List ℕ} {next : ℕ} → Holds (state_line (get_or millikelvin taken 0) (get_or pascals taken 0)) buffer end after next → Written millikelvin pascals before at (taken + 1) after next
-    state_written holds =
         record {
-          lists = written.lists;
-          within = omega arith;
-          underway = rw (add-one taken) (part_held written.underway next_line other_lines (line_first written.lists below) holds);
+          writable = next_writable written.lists;
+          room = part_fits written.underway (state_line temperature pressure) (state_lines (paired left_millikelvin left_pascals)) (first_line temperature pressure left_millikelvin left_pascals);
         }
 
-  pub all_written : length millikelvin ≤ taken → Holds (state_lines (paired millikelvin pascals)) before at buffer end
-  all_written over = all_put written.underway (none_left written.lists over)
+    pub state_written : {after : List ℕ} {next : ℕ} → Holds (state_line temperature pressure) buffer end after next → Written millikelvin pascals before at left_millikelvin left_pascals after next
+    state_written holds =
+        record {
+          lists = others_make_section written.lists;
+          underway = part_held written.underway (state_line temperature pressure) (state_lines (paired left_millikelvin left_pascals)) (first_line temperature pressure left_millikelvin left_pascals) holds;
+        }
+
+  pub all_written : {left_pascals buffer : List ℕ} {end : ℕ} → Written millikelvin pascals before at [] left_pascals buffer end → Holds (state_lines (paired millikelvin pascals)) before at buffer end
+  all_written {left_pascals} written = all_put written.underway (no_lines left_pascals)
 
 -- the count and the line's end, said by equations too, and then the state lines
 module _ {millikelvin pascals before : List ℕ} {at : ℕ} (fits : SectionFits millikelvin pascals before at) {with_count buffer last : List ℕ} {count count_end start : ℕ} (puts_count : Puts (digits most_digits count) before at with_count count_end) (puts_last : Puts last with_count count_end buffer start) (is_count : count ≡ length millikelvin) (is_last : last ≡ line_end ∷ []) where
@@ -73,9 +67,10 @@ module _ {millikelvin pascals before : List ℕ} {at : ℕ} (fits : SectionFits 
           ∙ append_assoc (decimal (length millikelvin)) (line_end ∷ []) (state_lines (paired millikelvin pascals))
           ∙ ap₂ (λ (c l : List ℕ). c ++ (l ++ state_lines (paired millikelvin pascals))) (ap decimal (sym is_count) ∙ sym (digits_are_decimal count (omega (arith, fits.lists.few, is_count)))) (sym is_last)
 
-  pub begins : Written millikelvin pascals buffer start 0 buffer start
-  begins =
-      record { lists = fits.lists; within = omega arith; underway = none_put (state_lines (paired millikelvin pascals)) buffer start (last_fits counted) }
+  -- all states are left
+  pub begins : {left_millikelvin left_pascals : List ℕ} → left_millikelvin ≡ millikelvin → left_pascals ≡ pascals → Written millikelvin pascals buffer start left_millikelvin left_pascals buffer start
+  begins all_millikelvin all_pascals =
+      rw (all_millikelvin, all_pascals) (record { lists = fits.lists; underway = none_put (state_lines (paired millikelvin pascals)) buffer start (last_fits counted) })
 
   pub section_put : {after : List ℕ} {next : ℕ} → Holds (state_lines (paired millikelvin pascals)) buffer start after next → Holds (section (paired millikelvin pascals)) before at after next
   section_put holds = last_held counted holds

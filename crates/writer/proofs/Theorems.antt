@@ -8,10 +8,10 @@ use Prim.Native.Nat.{ℕ, ◌+◌, ◌-◌, ◌≤◌, ◌<◌}
 use native.Mathlib.Omega.{arith}
 use lib.ListN.{length, length-map, get_or, take, drop, length-append, length-drop, drop_of_length-le, get_elem?}
 use lib.Seq.{take-append_seam, get_or-append-add, get_or-drop}
+use Rattle.std.specs.Prelude.{Ok, Err, None}
 use Rattle.refusals.specs.Checks.{NoneOf, refuses, answers}
 use Rattle.refusals.proofs.Theorems.{tells_once, none_is_answered, not_answered_is_refused, zero_is_answered}
 use Rattle.sheets.specs.declared.State.{State}
-use Rattle.sheets.specs.declared.Next.TheVariants as Next
 use Rattle.sheets.specs.Grammar.{all_sections, Pair, sheet, Good, states_from, sum_of_counts}
 use Rattle.sheets.specs.Reading.{start, Reads}
 use Rattle.sheets.proofs.Theorems.{good_sheet_reads_as_written, written_once}
@@ -20,17 +20,15 @@ use Rattle.readings.specs.Readers.{most_bytes}
 use Rattle.readings.specs.Replies.{ReadsAs, LineReadsAs}
 use Rattle.readings.proofs.Answers.{good_told, good_line_told}
 use Rattle.readings.proofs.Full.{full_sheet, full_sheet_is_good, full_sheet_has_66015_bytes, largest_sheet, largest_sheet_is_good, largest_sheet_has_65536_bytes}
-use Rattle.measures.specs.declared.reply.WriteReply.{WriteReply}
-use Rattle.measures.specs.declared.reply.WriteReply.TheVariants as Reply
 use Rattle.measures.specs.declared.reply.WriteFigures.{WriteFigures}
 use Rattle.measures.specs.Columns.{Columns, pairs_of, lists_of}
 use Rattle.measures.specs.Checks.{write_checks}
-use Rattle.measures.specs.Replies.{answered, refused_with, figures_of, Told}
+use Rattle.measures.specs.Replies.{answered, refused_with, WriteReply, figures_of, Told}
 use Rattle.measures.specs.Inside.{EachMakesSection}
 use Rattle.measures.proofs.Telling.{makes_sections, each_section, told_length}
 use Rattle.measures.proofs.Theorems.{figures_determine_reply, every_list_is_told}
 use Rattle.writer.specs.Replies.{Leaving, left, Writes}
-use Rattle.writer.proofs.Telling.{writes_nothing}
+use Rattle.writer.proofs.Telling.{writes_refusal}
 use Rattle.writer.proofs.Back.{fluids_in, lists_again, fluids_again, never_unfit, never_too_many_digits}
 
 abbrev figures_in : Leaving → WriteFigures
@@ -82,16 +80,14 @@ module _ (fluids : List Columns) (before : List ℕ) where
   every_list_has_a_reply = by_reply (every_list_is_told fluids (length before))
     where
       by_reply : (reply : WriteReply) × Told fluids (length before) (figures_of reply) → Answered
-      by_reply (Reply.Written long, told) =
+      by_reply (Ok long, told) =
           let passes = told_length fluids told in
           record {
-            reply = Reply.Written long;
+            reply = Ok long;
             buffer = sheet_of fluids ++ drop (length (sheet_of fluids)) before;
             writes = answers passes.none (ap (λ (n : ℕ). left (record { number = 0; length = n }) (sheet_of fluids ++ drop (length (sheet_of fluids)) before)) passes.is_length);
           }
-      by_reply (Reply.ListsUnfit, told) = record { reply = Reply.ListsUnfit; buffer = before; writes = writes_nothing fluids (λ same. omega arith) told }
-      by_reply (Reply.TooManyDigits, told) = record { reply = Reply.TooManyDigits; buffer = before; writes = writes_nothing fluids (λ same. omega arith) told }
-      by_reply (Reply.NoRoom, told) = record { reply = Reply.NoRoom; buffer = before; writes = writes_nothing fluids (λ same. omega arith) told }
+      by_reply (Err refusal, told) = record { reply = Err refusal; buffer = before; writes = writes_refusal fluids refusal told }
 
   -- The sheet is written exactly where no check applies: a buffer of just its length is enough.
   pub just_enough_room : NoneOf (write_checks fluids (length (sheet_of fluids))) → length before ≡ length (sheet_of fluids) → Writes fluids before (left (answered (sheet_of fluids)) (sheet_of fluids))
@@ -126,7 +122,7 @@ module _ (fluids : List Columns) (before : List ℕ) where
 pub record ReadsBack (fluids : List Columns) (bytes : List ℕ) : Type 0 where
   pub good : Good all_sections bytes (lists_of fluids)
   pub same_lists : (lists : List (List Pair)) → Good all_sections bytes lists → fluids_in lists ≡ fluids
-  pub state_for_state : Reads all_sections bytes start (states_from 0 (lists_of fluids)) Next.Over
+  pub state_for_state : Reads all_sections bytes start (states_from 0 (lists_of fluids)) (Ok None)
   pub count : ReadsAs bytes (sheet_answered (sum_of_counts (lists_of fluids)))
   pub each_line : (k : ℕ) {state : State} → k < sum_of_counts (lists_of fluids) → get_elem? (states_from 0 (lists_of fluids)) k ≡ some state → LineReadsAs bytes k (line_answered state)
 

@@ -7,6 +7,7 @@ ghost use Rattle.measures.specs.Inside.{state_line};
 ghost use Rattle.writer.specs.Inside.{StateFits, SectionFits};
 
 use buffers::{put, put_number};
+use measures::Columns;
 
 fn put_state(buffer: &mut [u8], at: usize, millikelvin: u64, pascals: u64) -> usize
     requires { StateFits millikelvin pascals buffer.old at }
@@ -18,20 +19,14 @@ fn put_state(buffer: &mut [u8], at: usize, millikelvin: u64, pascals: u64) -> us
     put(buffer, pressure_end, b"\n")
 }
 
-pub(crate) fn put_section(
-    buffer: &mut [u8],
-    at: usize,
-    millikelvin: &[u64],
-    pascals: &[u64],
-) -> usize
-    requires { SectionFits millikelvin.now pascals.now buffer.old at }
-    ensures { Holds (section (paired millikelvin.now pascals.now)) buffer.old at buffer.new result }
+pub(crate) fn put_section(buffer: &mut [u8], at: usize, columns: Columns) -> usize
+    requires { SectionFits columns.millikelvin.now columns.pascals.now buffer.old at }
+    ensures { Holds (section (paired columns.entry.millikelvin.now columns.entry.pascals.now)) buffer.old at buffer.new result }
 {
-    let count = millikelvin.len();
-    let count_end = put_number(buffer, at, count as u64);
+    let count_end = put_number(buffer, at, columns.millikelvin.len() as u64);
     let mut end = put(buffer, count_end, b"\n");
-    for taken in 0..count {
-        end = put_state(buffer, end, millikelvin[taken], pascals[taken]);
+    for (&temperature, &pressure) in columns.millikelvin.iter().zip(columns.pascals) {
+        end = put_state(buffer, end, temperature, pressure);
     }
     end
 }

@@ -1,12 +1,6 @@
--- `digests::take_digits` meets its contract. The loop's invariant is the contract itself, of the digits taken so far. The measure is how many bytes are
--- left. Assumes nothing.
-use Prim.Native.Nat.{◌-◌}
-use lib.ListN.{length}
+-- `digests::take_digits` meets its contract. The loop's invariant is the contract itself, of the digits taken so far. Assumes nothing.
 use Rattle.digests.specs.Inside.{Runs}
 use Rattle.digests.proofs.take_digits.Given as goal
 
-abbrev pub invariant-loop-end : goal.invariant-loop-end
-invariant-loop-end l = Runs l.bytes l.from l.number-2 (record { number = l.number; end = l.end })
-
-abbrev pub decreases-loop-end : goal.decreases-loop-end
-decreases-loop-end l = length l.bytes - l.end
+abbrev pub invariant-loop-digits : goal.invariant-loop-digits
+invariant-loop-digits l = Runs l.rest l.initial.number (record { number = l.number; digits = l.digits })

@@ -2,22 +2,23 @@
 -- the range. Assumes nothing.
 use mathlib.Core.Path.{refl, ◌∙◌, ap}
 use native.Mathlib.Nat.{not-le_of_lt}
+use Rattle.std.proofs.lemmas.Float.{T_from_true}
 use lib.Ieee.{of_bits}
 use lib.Ieee.Positive.{between}
 use Rattle.heat.specs.declared.table.Coefficients.{Coefficients}
 use Rattle.heat.specs.Evaluation.{evaluated}
-use Rattle.heat.proofs.Limits.{passed, at_least, at_most, below, above}
+use Rattle.heat.proofs.Limits.{at_least, at_most, below, above}
 use Rattle.heat.proofs.ideal_heat_capacity.Goals as goal
 
 pub coefficients_at-coefficients-requires : goal.coefficients_at-coefficients-requires
 unfolding of_bits
-coefficients_at-coefficients-requires c = between _ c.args.kelvin _ tt tt (passed c.if-kelvin.true) (passed c.if-kelvin-2.true)
+coefficients_at-coefficients-requires c = between _ c.args.kelvin _ tt tt (T_from_true _ c.if-kelvin.true) (T_from_true _ c.if-kelvin-2.true)
 
 pub returns-then-kelvin-2 : goal.returns-then-kelvin-2
 unfolding of_bits
 returns-then-kelvin-2 c =
     let kelvin = c.args.kelvin in
-    let is_number = between _ kelvin _ tt tt (passed c.if-kelvin.true) (passed c.if-kelvin-2.true) in
+    let is_number = between _ kelvin _ tt tt (T_from_true _ c.if-kelvin.true) (T_from_true _ c.if-kelvin-2.true) in
     let row = c.coefficients_at-coefficients.ensures in
     record {
       in_range =

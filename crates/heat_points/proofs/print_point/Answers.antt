@@ -3,4 +3,4 @@ use Rattle.heat.proofs.Theorems.{answer_is_no_nan}
 use Rattle.heat_points.proofs.print_point.Goals as goal
 
 pub float_to_bits-heat : goal.float_to_bits-heat
-float_to_bits-heat c = answer_is_no_nan _ _ c.in-KilojoulesPerKilogramKelvin.ensures
+float_to_bits-heat g c = answer_is_no_nan _ _ c.in-KilojoulesPerKilogramKelvin.ensures

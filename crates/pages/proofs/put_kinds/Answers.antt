@@ -1,8 +1,9 @@
 -- `pages::put_kinds` meets its contract: its rows, one behind another. Assumes nothing.
 use mathlib.Core.Path.{refl}
+use Rattle.std.proofs.Common.{rules}
 use Rattle.pages.proofs.Rows.{row_before, no_rows}
 use Rattle.pages.proofs.put_kinds.Goals as goal
 
 pub returns : goal.returns
 returns c =
-    row_before c.put_row-split.ensures refl (row_before c.put_row.ensures refl (no_rows c.put_row.ensures))
+    row_before c.put_row-split.ensures refl (λ section number is. search rules) (row_before c.put_row.ensures refl (λ section number is. search rules) (no_rows c.put_row.ensures.fills))

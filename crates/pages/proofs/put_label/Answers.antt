@@ -1,14 +1,8 @@
 -- `pages::put_label` meets its contract: the label, and the spaces that are left behind it. Assumes nothing.
 use mathlib.Core.Path.{refl}
 use native.Mathlib.Omega.{arith}
-use Rattle.buffers.proofs.Holding.{put_with_room}
 use Rattle.pages.proofs.Filling.{put_fills, left_fills}
 use Rattle.pages.proofs.put_label.Goals as goal
-
-pub put_spaces-requires : goal.put_spaces-requires
-put_spaces-requires c =
-    let label = put_with_room c.put-end.ensures (omega arith) in
-    omega (arith, label.reaches)
 
 pub returns : goal.returns
 returns c =

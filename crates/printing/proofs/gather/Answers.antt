@@ -1,53 +1,31 @@
+use mathlib.Core.Path.{refl, ap}
 use native.Mathlib.Omega.{arith}
-use Rattle.sheets.specs.declared.Next.TheVariants as Next
+use Rattle.std.proofs.lemmas.Result.{err_from_is_err_and}
+use Rattle.std.specs.Prelude.{Ok, Err, Some, None}
+use Rattle.sheets.specs.Reading.{Comes}
+use Rattle.sheets.specs.Grammar.{all_sections}
 use Rattle.readings.proofs.Nexts.{next_came}
 use Rattle.sheets.proofs.Walks.{comes_moves}
-use Rattle.printing.proofs.Gathered.{begins, gathers, prints_all, prints_fault, prints_too_long}
+use Rattle.printing.proofs.Gathered.{begins, gathers, prints_all, reads_fault}
 use Rattle.printing.proofs.gather.Goals as goal
 
-pub loop-state-init : goal.loop-state-init
-loop-state-init c = rw c.start-cursor.ensures (begins _ _)
+comes_line : (c : goal.After-cursor-1) → Comes all_sections c.args.sheet.now c.loop-line.cursor (Ok (Some (record { state = c.in-Some.line.state; after = c.in-Some.line.after })))
+comes_line c = (next_came _ _ (Ok (Some c.in-Some.line)) (ap Ok c.in-Some.is) c.in_ok-line.ensures).comes
 
-pub put_line-end-requires : goal.put_line-end-requires
-put_line-end-requires c = c.state_text-line.ensures.sized
+pub loop-line-init : goal.loop-line-init
+loop-line-init c = rw c.start-cursor.ensures (begins _ _)
 
-pub loop-state-smaller : goal.loop-state-smaller
-loop-state-smaller c =
-    let came = next_came _ _ (Next.State _ _) c.in-State.is c.next.ensures in
-    let moves = comes_moves _ came.comes in
-    omega (arith, moves.on, moves.inside)
+pub returns-in_err-line : goal.returns-in_err-line
+returns-in_err-line c =
+    let fault = err_from_is_err_and c.from_residual.result c.from_residual.ensures.1 in
+    rw (fault.1, fault.2) (reads_fault c.loop-line.invariant _ (next_came _ _ (Err _) refl c.in_err-line.ensures))
 
-pub loop-state-preserved : goal.loop-state-preserved
-loop-state-preserved c =
-    let came = next_came _ _ (Next.State _ _) c.in-State.is c.next.ensures in
-    gathers c.loop-state.invariant c.requires came.comes c.state_text-line.ensures c.put_line-end.ensures
+pub loop-line-smaller : goal.loop-line-smaller
+loop-line-smaller c = let moves = comes_moves _ (comes_line c) in omega (arith, moves.on, moves.inside)
 
-pub shape_of-buffer-in-Over : goal.shape_of-buffer-in-Over
-shape_of-buffer-in-Over c = c.loop-state.invariant.same_length
+pub loop-line-preserved : goal.loop-line-preserved
+loop-line-preserved c =
+    gathers c.loop-line.invariant c.requires (comes_line c) c.state_text-text.ensures (rw c.bytes.ensures at c.put-end.ensures)
 
-pub returns-in-Over : goal.returns-in-Over
-returns-in-Over c =
-    let told = prints_all c.loop-state.invariant c.requires (next_came _ _ Next.Over c.in-Over.is c.next.ensures) in
-    record { prefix_len = told.0; prints = told.1 }
-
-pub put_line-requires : goal.put_line-requires
-put_line-requires c = c.fault_text-line.ensures.sized
-
-pub shape_of-buffer-in-Malformed : goal.shape_of-buffer-in-Malformed
-shape_of-buffer-in-Malformed c = omega (arith, c.put_line.auto, c.loop-state.invariant.same_length)
-
-pub returns-in-Malformed : goal.returns-in-Malformed
-returns-in-Malformed c =
-    let told = prints_fault c.loop-state.invariant c.requires c.put_line.ensures _ (next_came _ _ (Next.Malformed _) c.in-Malformed.is c.next.ensures) c.fault_text-line.ensures in
-    record { prefix_len = told.0; prints = told.1 }
-
-pub put_line-requires-in-TooLong : goal.put_line-requires-in-TooLong
-put_line-requires-in-TooLong c = c.fault_text-line-in-TooLong.ensures.sized
-
-pub shape_of-buffer-in-TooLong : goal.shape_of-buffer-in-TooLong
-shape_of-buffer-in-TooLong c = omega (arith, c.put_line-in-TooLong.auto, c.loop-state.invariant.same_length)
-
-pub returns-in-TooLong : goal.returns-in-TooLong
-returns-in-TooLong c =
-    let told = prints_too_long c.loop-state.invariant c.requires c.put_line-in-TooLong.ensures (next_came _ _ Next.TooLong c.in-TooLong.is c.next.ensures) c.fault_text-line-in-TooLong.ensures in
-    record { prefix_len = told.0; prints = told.1 }
+pub returns : goal.returns
+returns c = prints_all c.loop-line.invariant c.requires (next_came _ _ (Ok None) (ap Ok c.in_default.is) c.in_ok-line.ensures)

@@ -5,8 +5,8 @@ use lib.ListN.{length}
 use Rattle.printing.proofs.Gathered.{Gathered}
 use Rattle.printing.proofs.gather.Given as goal
 
-abbrev pub invariant-loop-state : goal.invariant-loop-state
-invariant-loop-state l = Gathered l.sheet l.initial.buffer l.cursor l.buffer l.end
+abbrev pub invariant-loop-line : goal.invariant-loop-line
+invariant-loop-line l = Gathered l.sheet l.initial.buffer l.cursor l.buffer l.end
 
-abbrev pub decreases-loop-state : goal.decreases-loop-state
-decreases-loop-state l = length l.sheet - l.cursor.place
+abbrev pub decreases-loop-line : goal.decreases-loop-line
+decreases-loop-line l = length l.sheet - l.cursor.place

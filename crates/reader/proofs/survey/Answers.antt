@@ -1,35 +1,27 @@
-use Prim.Native.Nat.{◌-◌}
+use mathlib.Core.Path.{refl, ap}
 use native.Mathlib.Omega.{arith}
-use Rattle.sheets.specs.declared.Next.TheVariants as Next
+use Rattle.std.proofs.lemmas.Result.{err_from_is_err_and}
+use Rattle.std.specs.Prelude.{Ok, Err, Some, None}
+use Rattle.sheets.specs.Reading.{Comes}
 use Rattle.sheets.specs.Grammar.{all_sections}
-use Rattle.readings.proofs.Nexts.{next_came}
 use Rattle.sheets.proofs.Walks.{comes_moves}
-use Rattle.reader.proofs.Surveys.{begins, few, walks_on, found_all, found_fault}
+use Rattle.readings.proofs.Nexts.{next_came}
+use Rattle.reader.proofs.Surveys.{walks_on, found_all, found_fault}
 use Rattle.reader.proofs.survey.Goals as goal
 
-pub loop-state-init : goal.loop-state-init
-loop-state-init c = rw c.start-cursor.ensures (begins _ _)
+comes_line : (c : goal.After-cursor-1) → Comes all_sections c.args.sheet.now c.loop-line.cursor (Ok (Some (record { state = c.in-Some.line.state; after = c.in-Some.line.after })))
+comes_line c = (next_came _ _ (Ok (Some c.in-Some.line)) (ap Ok c.in-Some.is) c.in_ok-line.ensures).comes
 
-pub overflow_add-state_lines : goal.overflow_add-state_lines
-overflow_add-state_lines c = omega (arith, few c.loop-state.invariant)
+pub returns-in_err-line : goal.returns-in_err-line
+returns-in_err-line c =
+    let fault = err_from_is_err_and c.from_residual.result c.from_residual.ensures.1 in
+    rw (fault.1, fault.2) (found_fault c.loop-line.invariant _ (next_came _ _ (Err _) refl c.in_err-line.ensures))
 
-pub loop-state-smaller : goal.loop-state-smaller
-loop-state-smaller c =
-    let moves = comes_moves _ (next_came _ _ (Next.State _ _) c.in-State.is c.next.ensures).comes in
-    omega (arith, moves.on, moves.inside)
+pub loop-line-smaller : goal.loop-line-smaller
+loop-line-smaller c = let moves = comes_moves _ (comes_line c) in omega (arith, moves.on, moves.inside)
 
-pub loop-state-preserved : goal.loop-state-preserved
-loop-state-preserved c =
-    let walked = c.loop-state.invariant in
-    let comes = (next_came _ _ (Next.State _ _) c.in-State.is c.next.ensures).comes in
-    walks_on walked _ _ comes _ (grind arith)
+pub loop-line-preserved : goal.loop-line-preserved
+loop-line-preserved c = walks_on c.loop-line.invariant _ _ (comes_line c) _ (grind arith)
 
-pub returns-in-Over : goal.returns-in-Over
-returns-in-Over c = found_all c.loop-state.invariant (next_came _ _ Next.Over c.in-Over.is c.next.ensures)
-
-pub returns-in-Malformed : goal.returns-in-Malformed
-returns-in-Malformed c =
-    found_fault c.loop-state.invariant _ (next_came _ _ (Next.Malformed _) c.in-Malformed.is c.next.ensures)
-
-pub returns-in-TooLong : goal.returns-in-TooLong
-returns-in-TooLong c = next_came _ _ Next.TooLong c.in-TooLong.is c.next.ensures
+pub returns : goal.returns
+returns c = found_all c.loop-line.invariant (next_came _ _ (Ok None) (ap Ok c.in_default.is) c.in_ok-line.ensures)

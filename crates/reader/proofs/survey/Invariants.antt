@@ -6,8 +6,8 @@ use lib.ListN.{length}
 use Rattle.reader.proofs.Surveys.{Walked}
 use Rattle.reader.proofs.survey.Given as goal
 
-abbrev pub invariant-loop-state : goal.invariant-loop-state
-invariant-loop-state l = Walked l.sheet l.k l.cursor l.state_lines l.wanted
+abbrev pub invariant-loop-line : goal.invariant-loop-line
+invariant-loop-line l = Walked l.sheet l.k l.cursor l.state_lines l.wanted
 
-abbrev pub decreases-loop-state : goal.decreases-loop-state
-decreases-loop-state l = length l.sheet - l.cursor.place
+abbrev pub decreases-loop-line : goal.decreases-loop-line
+decreases-loop-line l = length l.sheet - l.cursor.place

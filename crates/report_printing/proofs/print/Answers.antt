@@ -1,23 +1,9 @@
--- `report_printing::print` meets its contract: each reply with its text. Assumes nothing.
-use Rattle.reports.specs.declared.told.Reported.TheVariants as Reported
-use Rattle.report_printing.proofs.Printed.{prints, prints_page}
+-- `report_printing::print` meets its contract: the page of the report is all of the buffer. Assumes nothing.
+use Rattle.report_printing.proofs.Printed.{prints_page}
 use Rattle.report_printing.proofs.print.Goals as goal
 
-pub returns-in-Report : goal.returns-in-Report
-returns-in-Report c =
-    let told = prints_page c.report.ensures c.in-Report.report _ c.in-Report.is c.page.ensures in
-    record { prefix_len = told.0; prints_report = told.1 }
+pub returns-in-Ok-clause-prefix_len : goal.returns-in-Ok-clause-prefix_len
+returns-in-Ok-clause-prefix_len c = (prints_page c.report.ensures c.in-Ok.report _ c.in-Ok.is c.page.ensures).0
 
-pub returns-in-Malformed : goal.returns-in-Malformed
-returns-in-Malformed c =
-    record {
-      prefix_len = c.put_fault.ensures.0;
-      prints_report = prints c.report.ensures (Reported.Malformed c.in-Malformed.place) c.in-Malformed.is c.put_fault.ensures.1;
-    }
-
-pub returns-in-TooLong : goal.returns-in-TooLong
-returns-in-TooLong c =
-    record {
-      prefix_len = c.put_fault-in-TooLong.ensures.0;
-      prints_report = prints c.report.ensures Reported.TooLong c.in-TooLong.is c.put_fault-in-TooLong.ensures.1;
-    }
+pub returns-in-Ok-clause-prints_report : goal.returns-in-Ok-clause-prints_report
+returns-in-Ok-clause-prints_report c = (prints_page c.report.ensures c.in-Ok.report _ c.in-Ok.is c.page.ensures).1

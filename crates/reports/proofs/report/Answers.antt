@@ -1,28 +1,27 @@
-use Prim.Native.Nat.{◌-◌}
+use mathlib.Core.Path.{refl, ap}
 use native.Mathlib.Omega.{arith}
-use Rattle.sheets.specs.declared.Next.TheVariants as Next
+use Rattle.std.proofs.lemmas.Result.{err_from_is_err_and}
+use Rattle.std.specs.Prelude.{Ok, Err, Some, None}
+use Rattle.sheets.specs.Grammar.{all_sections}
+use Rattle.sheets.specs.Reading.{Comes}
 use Rattle.sheets.proofs.Walks.{comes_moves}
-use Rattle.readings.proofs.Answers.{long_told}
 use Rattle.readings.proofs.Nexts.{next_came}
-use Rattle.reports.proofs.Whole.{begins, walks_on, told_at_end}
+use Rattle.reports.proofs.Whole.{walks_on, told_at_end, told_fault}
 use Rattle.reports.proofs.report.Goals as goal
 
-pub loop-state-init : goal.loop-state-init
-loop-state-init c = rw c.start-cursor.ensures (begins _)
+pub returns-in_err-line : goal.returns-in_err-line
+returns-in_err-line c =
+    let fault = err_from_is_err_and c.from_residual.result c.from_residual.ensures.1 in
+    rw (fault.1, fault.2) (told_fault c.loop-line.invariant _ (next_came _ _ (Err _) refl c.in_err-line.ensures))
 
-pub loop-state-smaller : goal.loop-state-smaller
-loop-state-smaller c =
-    let moves = comes_moves _ (next_came _ _ (Next.State _ _) c.in-State.is c.next.ensures).comes in
-    omega (arith, moves.on, moves.inside)
+comes_line : (c : goal.After-cursor-1) → Comes all_sections c.args.sheet.now c.loop-line.cursor (Ok (Some (record { state = c.in-Some.line.state; after = c.in-Some.line.after })))
+comes_line c = (next_came _ _ (Ok (Some c.in-Some.line)) (ap Ok c.in-Some.is) c.in_ok-line.ensures).comes
 
-pub loop-state-preserved : goal.loop-state-preserved
-loop-state-preserved c = walks_on c.loop-state.invariant (next_came _ _ (Next.State _ _) c.in-State.is c.next.ensures).comes c.add_line-state_lines.ensures
+pub loop-line-smaller : goal.loop-line-smaller
+loop-line-smaller c = let moves = comes_moves _ (comes_line c) in omega (arith, moves.on, moves.inside)
 
-pub returns-in-Over : goal.returns-in-Over
-returns-in-Over c = rw c.report_of-report.ensures (told_at_end c.loop-state.invariant Next.Over tt (next_came _ _ Next.Over c.in-Over.is c.next.ensures))
+pub loop-line-preserved : goal.loop-line-preserved
+loop-line-preserved c = walks_on c.loop-line.invariant (comes_line c) c.add_line.ensures
 
-pub returns-in-Malformed : goal.returns-in-Malformed
-returns-in-Malformed c = told_at_end c.loop-state.invariant (Next.Malformed _) tt (next_came _ _ (Next.Malformed _) c.in-Malformed.is c.next.ensures)
-
-pub returns-in-TooLong : goal.returns-in-TooLong
-returns-in-TooLong c = long_told _ (next_came _ _ Next.TooLong c.in-TooLong.is c.next.ensures)
+pub returns : goal.returns
+returns c = told_at_end c.loop-line.invariant (Ok None) tt (next_came _ _ (Ok None) (ap Ok c.in_default.is) c.in_ok-line.ensures)

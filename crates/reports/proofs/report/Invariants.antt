@@ -2,12 +2,11 @@
 -- with them the reading from the start. The measure is how many bytes of the sheet are left. Assumes nothing.
 use Prim.Native.Nat.{◌-◌}
 use lib.ListN.{length}
-use Rattle.reports.specs.Parts.{running_at}
 use Rattle.reports.proofs.Whole.{Walked}
 use Rattle.reports.proofs.report.Given as goal
 
-abbrev pub invariant-loop-state : goal.invariant-loop-state
-invariant-loop-state l = Walked l.sheet l.cursor (running_at l.state_lines l.hydrogen l.oxygen l.nitrogen)
+abbrev pub invariant-loop-line : goal.invariant-loop-line
+invariant-loop-line l = Walked l.sheet l.cursor l.running
 
-abbrev pub decreases-loop-state : goal.decreases-loop-state
-decreases-loop-state l = length l.sheet - l.cursor.place
+abbrev pub decreases-loop-line : goal.decreases-loop-line
+decreases-loop-line l = length l.sheet - l.cursor.place

@@ -4,7 +4,7 @@ use Rattle.slow_engine.proofs.Way.{Walking}
 use Rattle.slow_engine.proofs.walk.Given as goal
 
 abbrev pub invariant-loop-values : goal.invariant-loop-values
-invariant-loop-values l = Walking l.a l.b l.limit l.z l.values
+invariant-loop-values l = Walking l.cubic.a l.cubic.b l.limit l.z l.values
 
 abbrev pub decreases-loop-values : goal.decreases-loop-values
 decreases-loop-values l = l.z

@@ -1,25 +1,16 @@
--- `streams::came_to` meets its contract: each test is the definition's. Assumes nothing.
-use mathlib.Core.Path.{sym, ◌∙◌}
-use Rattle.streams.proofs.Calls.{cast, below, nothing, all, part}
+-- `streams::came_to` meets its contract: each arm is a case of the definition. Assumes nothing.
+use Rattle.std.proofs.Common.{rules}
+use Rattle.streams.proofs.Calls.{came_to_nothing, came_to_bytes, came_to_interrupted, came_to_failed}
 use Rattle.streams.proofs.came_to.Goals as goal
 
-pub returns-then-interrupted : goal.returns-then-interrupted
-returns-then-interrupted c = let given = c.before.before in sym (below _ given.ranges.got _ _ c.if-got-lt0.true ∙ simp c.if-interrupted.true)
+pub returns-in-Ok-eq0-clause-told : goal.returns-in-Ok-eq0-clause-told
+returns-in-Ok-eq0-clause-told c = came_to_nothing _ c.in-Ok-eq0.is (rw c.in-Ok-eq0.is at c.in-Ok-eq0.field-0-test)
 
-pub returns-then-got-lt0 : goal.returns-then-got-lt0
-returns-then-got-lt0 c = let given = c.before.before in sym (below _ given.ranges.got _ _ c.if-got-lt0.true ∙ simp c.if-interrupted.false)
+pub returns-in-Ok-clause-told : goal.returns-in-Ok-clause-told
+returns-in-Ok-clause-told c = came_to_bytes _ c.in-Ok.is (rw c.in-Ok.is at c.in-Ok.count-test.1) c.min.ensures
 
-pub returns-then-got-eq0 : goal.returns-then-got-eq0
-returns-then-got-eq0 c = nothing _ c.ranges.got _ _ c.if-got-lt0.false c.if-got-eq0.true
+pub returns-in-Err-clause-told : goal.returns-in-Err-clause-told
+returns-in-Err-clause-told c = came_to_interrupted _ c.in-Err.is (search rules)
 
-pub overflow_cast-got : goal.overflow_cast-got
-overflow_cast-got c = cast _ c.ranges.got c.if-got-lt0.false
-
-pub returns-then-most-got : goal.returns-then-most-got
-returns-then-most-got c = all _ c.ranges.got _ _ c.if-got-lt0.false c.if-got-eq0.false c.if-most-got.true
-
-pub overflow_cast-result : goal.overflow_cast-result
-overflow_cast-result c = cast _ c.ranges.got c.if-got-lt0.false
-
-pub returns : goal.returns
-returns c = part _ c.ranges.got _ _ c.if-got-lt0.false c.if-got-eq0.false c.if-most-got.false
+pub returns-in-Err-2-clause-told : goal.returns-in-Err-2-clause-told
+returns-in-Err-2-clause-told c = came_to_failed _ c.in-Err.is (search rules)

@@ -2,5 +2,5 @@
 use Rattle.texts.proofs.Numbers.{SoFar}
 use Rattle.texts.proofs.put_numbers.Given as goal
 
-abbrev pub invariant-loop-taken : goal.invariant-loop-taken
-invariant-loop-taken l = SoFar l.numbers l.initial.buffer l.at l.taken l.buffer l.end
+abbrev pub invariant-loop-number : goal.invariant-loop-number
+invariant-loop-number l = SoFar l.numbers l.initial.buffer l.at l.number-index l.buffer l.end

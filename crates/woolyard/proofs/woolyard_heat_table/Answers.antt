@@ -2,4 +2,4 @@
 use Rattle.woolyard.proofs.woolyard_heat_table.Goals as goal
 
 pub returns : goal.returns
-returns c = rw c.figures-told.ensures c.ideal_heat_capacity-reply.ensures
+returns c = rw c.from-told.ensures c.ideal_heat_capacity-reply.ensures

@@ -2,4 +2,4 @@
 use Rattle.woolyard.proofs.woolyard_viscosity.Goals as goal
 
 pub returns : goal.returns
-returns c = rw c.figures-told.ensures c.excess_factor-reply.ensures
+returns c = rw c.from-told.ensures c.excess_factor-reply.ensures

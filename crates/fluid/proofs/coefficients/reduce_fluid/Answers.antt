@@ -4,46 +4,20 @@ use mathlib.Core.Path.{refl, ap}
 use native.Mathlib.Omega.{arith}
 use Rattle.fluid.specs.declared.choice.Ratios.{Ratios}
 use Rattle.fluid.specs.Figures.{critical_millikelvin, critical_pascals, Accepted}
-use Rattle.fluid.proofs.Accepting.{too_cold, too_hot, too_low, too_high, passes}
+use Rattle.fluid.proofs.Accepting.{passes}
 use Rattle.fluid.proofs.Ranges.{Spanned, spanned, Bounds, bounds}
 use Rattle.fluid.proofs.coefficients.reduce_fluid.Goals as goal
 
 -- the state past its four tests
-accepted : (c : goal.Else-pascals-gt-HIGHEST_PASCALS) → let start = c.args in Accepted start.fluid start.millikelvin start.pascals
+accepted : (c : goal.After-ratios_of-ratios) → let start = c.args in Accepted start.fluid start.millikelvin start.pascals
 accepted c = omega (arith, c.coldest_millikelvin-coldest.ensures)
 
 -- what is known of t and p of such a state, and of s too, once its root is found
 known : (c : goal.After-ratios_of-ratios) → let start = c.args in Spanned (critical_millikelvin start.fluid start.millikelvin) (critical_pascals start.fluid start.millikelvin) c.ratios_of-ratios.result.t c.ratios_of-ratios.result.p
-known c = rw c.ratios_of-ratios.ensures (spanned _ _ _ (accepted c.before))
+known c = rw c.ratios_of-ratios.ensures (spanned _ _ _ (accepted c))
 
 found : (c : goal.After-square_root-s) → let ratios = c.ratios_of-ratios.result in Bounds ratios.t ratios.p c.square_root-s.result
 found c = bounds (known c.before) c.square_root-s.ensures
-
-pub returns-then-millikelvin-coldest : goal.returns-then-millikelvin-coldest
-returns-then-millikelvin-coldest c =
-    let start = c.args in
-    too_cold start.fluid refl start.millikelvin start.pascals refl (omega (arith, c.coldest_millikelvin-coldest.ensures))
-
-pub returns-then-millikelvin-gt-HOTTEST_MILLIKELVIN : goal.returns-then-millikelvin-gt-HOTTEST_MILLIKELVIN
-returns-then-millikelvin-gt-HOTTEST_MILLIKELVIN c =
-    let start = c.args in
-    too_hot start.fluid refl start.millikelvin start.pascals refl (omega arith)
-
-pub returns-then-pascals-lt-LOWEST_PASCALS : goal.returns-then-pascals-lt-LOWEST_PASCALS
-returns-then-pascals-lt-LOWEST_PASCALS c =
-    let is-coldest = c.coldest_millikelvin-coldest.ensures in
-    too_low c.args.fluid refl _ _ (omega arith) (omega arith) refl (omega arith)
-
-pub returns-then-pascals-gt-HIGHEST_PASCALS : goal.returns-then-pascals-gt-HIGHEST_PASCALS
-returns-then-pascals-gt-HIGHEST_PASCALS c =
-    let is-coldest = c.coldest_millikelvin-coldest.ensures in
-    too_high c.args.fluid refl _ _ (omega arith) (omega arith) refl (omega arith)
-
-pub ratios_of-ratios-requires : goal.ratios_of-ratios-requires
-ratios_of-ratios-requires c = accepted c
-
-pub overflow_mul-t : goal.overflow_mul-t
-overflow_mul-t c = omega (arith, known c)
 
 pub overflow_cast-t : goal.overflow_cast-t
 overflow_cast-t c = omega (arith, known c)
@@ -60,19 +34,13 @@ overflow_mul-a-3 c = omega (arith, found c)
 pub nonzero_div-a : goal.nonzero_div-a
 nonzero_div-a c = omega (arith, found c)
 
-pub overflow_mul-b : goal.overflow_mul-b
-overflow_mul-b c = omega (arith, found c)
-
-pub overflow_mul-b-2 : goal.overflow_mul-b-2
-overflow_mul-b-2 c = omega (arith, found c)
-
 pub nonzero_div-b : goal.nonzero_div-b
 nonzero_div-b c = omega (arith, found c)
 
 pub returns : goal.returns
 returns c =
     let start = c.args in (
-      passes start.fluid refl _ _ (accepted c.before.before),
+      passes start.fluid refl _ _ (accepted c.before),
       record {
         is_number = refl;
         reduces =

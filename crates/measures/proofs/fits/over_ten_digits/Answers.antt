@@ -1,15 +1,10 @@
-use native.Mathlib.Omega.{arith}
-use Rattle.measures.proofs.Numbers.{none_passed, one_passed, one_found, all_passed}
+-- `measures::fits::over_ten_digits` meets its contract: what `any` tells of the numbers is so of the list. Assumes nothing.
+use Rattle.std.proofs.Common.{rules, tests, ◌≤◌, ◌<◌}
+use Rattle.std.proofs.lemmas.Iterator.{YieldsList-from_slice, cases_from_any}
+use Rattle.sheets.specs.Grammar.{eleven_digits}
+use Rattle.measures.proofs.Numbers.{some_decided}
 use Rattle.measures.proofs.fits.over_ten_digits.Goals as goal
 
-pub loop-taken-init : goal.loop-taken-init
-loop-taken-init c = none_passed _
-
-pub returns-then-numbers-taken-gt-MOST_NUMBER : goal.returns-then-numbers-taken-gt-MOST_NUMBER
-returns-then-numbers-taken-gt-MOST_NUMBER c = one_found c.loop-taken.invariant (omega arith) (omega arith)
-
-pub loop-taken-preserved : goal.loop-taken-preserved
-loop-taken-preserved c = one_passed c.loop-taken.invariant (omega arith) (omega arith)
-
 pub returns : goal.returns
-returns c = all_passed c.loop-taken.invariant (omega arith)
+returns c =
+    some_decided _ _ (cases_from_any _ _ _ (λ number. eleven_digits ≤ number) (λ number. number < eleven_digits) c.any.ensures.ran (YieldsList-from_slice c.args.numbers.now cc) (λ x q k. search (rules, tests)) (λ x q k. search (rules, tests)))

@@ -1,18 +1,16 @@
-use native.Mathlib.Omega.{arith}
-use Rattle.measures.proofs.Lengths.{count_measured, writable_here, line_measured, all_measured}
+use Rattle.std.proofs.Common.{rules}
+use Rattle.std.proofs.lemmas.Iterator.{empty_from_Zip}
+use Rattle.measures.proofs.Lengths.{count_measured, line_measured, all_measured}
 use Rattle.measures.proofs.sizes.section_length.Goals as goal
 
-pub loop-taken-init : goal.loop-taken-init
-loop-taken-init c = count_measured c.requires c.width-length.ensures
+pub loop-temperature-init : goal.loop-temperature-init
+loop-temperature-init c = search (rules, count_measured)
 
-pub width-requires : goal.width-requires
-width-requires c = (writable_here c.loop-taken.invariant (omega arith)).temperature
-
-pub width-requires-in-loop-taken : goal.width-requires-in-loop-taken
-width-requires-in-loop-taken c = (writable_here c.loop-taken.invariant (omega arith)).pressure
-
-pub loop-taken-preserved : goal.loop-taken-preserved
-loop-taken-preserved c = line_measured c.loop-taken.invariant (omega arith) c.width.ensures c.width-in-loop-taken.ensures
+pub loop-temperature-preserved : goal.loop-temperature-preserved
+loop-temperature-preserved c =
+    line_measured (rw (c.in-Some.ensures.steps.0, c.in-Some.ensures.steps.1) at c.loop-temperature.invariant) c.width.ensures c.width-in-loop-temperature.ensures
 
 pub returns : goal.returns
-returns c = all_measured c.loop-taken.invariant (omega arith)
+returns c =
+    let none = empty_from_Zip _ c.next.new.self _ c.in-None.is c.next.ensures.steps (search rules) in
+    all_measured (rw none.0 at c.loop-temperature.invariant)

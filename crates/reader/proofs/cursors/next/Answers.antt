@@ -1,7 +1,5 @@
-use mathlib.Core.Path.{ap, sym, ◌∙◌}
-use Prim.Native.Nat.{◌-◌}
+use mathlib.Core.Path.{sym, ◌∙◌}
 use native.Mathlib.Omega.{arith}
-use Rattle.sheets.specs.declared.Cursor.{Cursor}
 use Rattle.sheets.specs.declared.Line.TheVariants.{Count, Told}
 use Rattle.sheets.specs.Grammar.{all_sections}
 use Rattle.sheets.specs.Reading.{CountLine, Here, behind_count, here}
@@ -17,12 +15,6 @@ here_line c = stands_as _ _ _ (Told _) (sym c.in-Told.is ∙ c.line_at.ensures)
 
 pub returns-then-sheet-gt-MOST_BYTES : goal.returns-then-sheet-gt-MOST_BYTES
 returns-then-sheet-gt-MOST_BYTES c = long_next _ _ (omega arith)
-
-pub loop-after-init : goal.loop-after-init
-loop-after-init c = λ next comes. comes
-
-pub loop-after-smaller : goal.loop-after-smaller
-loop-after-smaller c = omega (arith, (count_line c).wanted, ap (λ (cursor : Cursor). cursor.begun) (count_line c).moves)
 
 pub loop-after-preserved : goal.loop-after-preserved
 loop-after-preserved c = λ next comes. c.loop-after.invariant next (behind_count (count_line c) comes)

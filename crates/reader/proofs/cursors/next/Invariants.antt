@@ -1,9 +1,8 @@
 -- `reader::cursors::next` meets its contract. The loop's invariant: what comes next from where the cursor is comes next from where it
 -- was. The measure is how many sections are still to begin. Assumes nothing.
 use Prim.Native.Nat.{◌-◌}
-use Rattle.sheets.specs.declared.Next.{Next}
 use Rattle.sheets.specs.Grammar.{all_sections}
-use Rattle.sheets.specs.Reading.{Comes}
+use Rattle.sheets.specs.Reading.{Next, Comes}
 use Rattle.reader.proofs.cursors.next.Given as goal
 
 abbrev pub invariant-loop-after : goal.invariant-loop-after

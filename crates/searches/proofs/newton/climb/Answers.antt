@@ -7,19 +7,19 @@ use Rattle.cubic.proofs.Room.{jump}
 use Rattle.cubic.proofs.Climbs.{Climbing, not_positive_at, climb_flat, climb_misses, climb_finds, climb_goes_on}
 use Rattle.searches.proofs.newton.climb.Goals as goal
 
-pub returns-then-b-ge-BEND : goal.returns-then-b-ge-BEND
+pub returns-then-cubic-ge-BEND : goal.returns-then-cubic-ge-BEND
 unfolding NotPositiveTo
-returns-then-b-ge-BEND c = record { not_positive = λ y h. to_b _ _ y (omega arith); found = λ h. omega arith; to_bend = omega arith }
+returns-then-cubic-ge-BEND c = record { not_positive = λ y h. to_b _ _ y (omega arith); found = λ h. omega arith; to_bend = omega arith }
 
-pub loop-a-init : goal.loop-a-init
+pub loop-cubic-init : goal.loop-cubic-init
 unfolding NotPositiveTo
-loop-a-init c = record { before_bend = omega arith; not_positive = λ y h. to_b _ _ y (omega arith) }
+loop-cubic-init c = record { before_bend = omega arith; not_positive = λ y h. to_b _ _ y (omega arith) }
 
 pub returns-then-slope-eq0 : goal.returns-then-slope-eq0
-returns-then-slope-eq0 c = climb_flat c.if-slope-eq0.true c.rise-slope.ensures c.loop-a.invariant
+returns-then-slope-eq0 c = climb_flat c.if-slope-eq0.true c.rise-slope.ensures c.loop-cubic.invariant
 
 pub overflow_sub-room : goal.overflow_sub-room
-overflow_sub-room c = omega (arith, not_positive_at _ _ c.loop-a.invariant)
+overflow_sub-room c = omega (arith, not_positive_at _ _ c.loop-cubic.invariant)
 
 -- a turn's values, once they are all worked out
 turn : {a b low above below slope : ℕ} → ClimbsFrom a b low → above ≡ plus a low → below ≡ minus a b low → slope ≡ rise a b low →
@@ -28,12 +28,12 @@ turn {a} {b} begins is_above is_below is_slope =
     record { is_room = omega (arith, not_positive_at a b begins); is_slope = is_slope; begins = begins }
 
 pub returns-then-room-slope : goal.returns-then-room-slope
-returns-then-room-slope c = climb_finds c.if-room-slope.true (turn c.loop-a.invariant c.plus.ensures c.minus.ensures c.rise-slope.ensures)
+returns-then-room-slope c = climb_finds c.if-room-slope.true (turn c.loop-cubic.invariant c.plus.ensures c.minus.ensures c.rise-slope.ensures)
 
 pub returns-then-low-jump : goal.returns-then-low-jump
 returns-then-low-jump c =
-    climb_misses (jump (omega arith)) (turn c.loop-a.invariant c.plus.ensures c.minus.ensures c.rise-slope.ensures)
+    climb_misses (jump (omega arith)) (turn c.loop-cubic.invariant c.plus.ensures c.minus.ensures c.rise-slope.ensures)
 
-pub loop-a-preserved : goal.loop-a-preserved
-loop-a-preserved c =
-    climb_goes_on (omega arith) (turn c.loop-a.invariant c.plus.ensures c.minus.ensures c.rise-slope.ensures)
+pub loop-cubic-preserved : goal.loop-cubic-preserved
+loop-cubic-preserved c =
+    climb_goes_on (omega arith) (turn c.loop-cubic.invariant c.plus.ensures c.minus.ensures c.rise-slope.ensures)

@@ -4,8 +4,8 @@ use Prim.Native.Nat.{◌-◌}
 use Rattle.cubic.specs.Sides.{bend, ClimbsFrom}
 use Rattle.searches.proofs.newton.climb.Given as goal
 
-abbrev pub invariant-loop-a : goal.invariant-loop-a
-invariant-loop-a l = ClimbsFrom l.a l.b l.low
+abbrev pub invariant-loop-cubic : goal.invariant-loop-cubic
+invariant-loop-cubic l = ClimbsFrom l.cubic.a l.cubic.b l.low
 
-abbrev pub decreases-loop-a : goal.decreases-loop-a
-decreases-loop-a l = bend - l.low
+abbrev pub decreases-loop-cubic : goal.decreases-loop-cubic
+decreases-loop-cubic l = bend - l.low

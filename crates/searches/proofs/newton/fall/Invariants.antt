@@ -3,8 +3,8 @@
 use Rattle.cubic.specs.Sides.{Falling}
 use Rattle.searches.proofs.newton.fall.Given as goal
 
-abbrev pub invariant-loop-a : goal.invariant-loop-a
-invariant-loop-a l = Falling l.a l.b l.place.high l.place.room l.place.slope
+abbrev pub invariant-loop-cubic : goal.invariant-loop-cubic
+invariant-loop-cubic l = Falling l.cubic.a l.cubic.b l.place.high l.place.room l.place.slope
 
-abbrev pub decreases-loop-a : goal.decreases-loop-a
-decreases-loop-a l = l.place.high
+abbrev pub decreases-loop-cubic : goal.decreases-loop-cubic
+decreases-loop-cubic l = l.place.high

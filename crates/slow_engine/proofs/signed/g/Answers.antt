@@ -3,7 +3,7 @@ use Rattle.slow_engine.proofs.Room.{room_as_read, g_as_read}
 use Rattle.slow_engine.proofs.signed.g.Goals as goal
 
 pub polynomial-requires : goal.polynomial-requires
-polynomial-requires c = room_as_read c.requires.0 c.requires.1
+polynomial-requires c = room_as_read c.args.cubic.within c.requires
 
 pub returns : goal.returns
-returns c = g_as_read c.requires.0 c.requires.1 c.polynomial.ensures
+returns c = g_as_read c.args.cubic.within c.requires c.polynomial.ensures
