@@ -4,7 +4,7 @@
 // answers (host/checks/stored makes that again).
 #![tactic(auto)]
 
-ghost use Rattle.std.specs.Prelude.{◌≡◌};
+ghost use Rattle.std.specs.Prelude.{◌≡◌, ◌<◌, IfSome};
 ghost use Rattle.std.specs.Float.{binary64};
 ghost use Rattle.std.specs.Float.Ieee.{of_bits};
 
@@ -18,7 +18,9 @@ const SIGN: u64 = 0x8000_0000_0000_0000;
 
 const INFINITY: u64 = 0x7ff0_0000_0000_0000;
 
-fn digit(byte: u8) -> Option<u64> {
+fn digit(byte: u8) -> Option<u64>
+    ensures { IfSome result (λ digit. digit < 16) }
+{
     match byte {
         b'0'..=b'9' => Some(u64::from(byte - b'0')),
         b'a'..=b'f' => Some(u64::from(byte - b'a') + 10),
@@ -44,14 +46,14 @@ fn double_of(bits: u64) -> f64
     f64::from_bits(bits)
 }
 
-fn print_point(rt: &impl Print, bits: u64) -> io::Result<()> {
+fn print_point(rt: &impl Print, bits: u64) {
     let reply = heat::ideal_heat_capacity(double_of(bits));
-    match reply {
+    let _ = match reply {
         HeatCapacity::KilojoulesPerKilogramKelvin(heat) => {
             println!(rt; "{bits:016x} {:016x}", heat.to_bits())
         }
         HeatCapacity::OutOfRange => println!(rt; "{bits:016x} NO {}", reply.number()),
-    }
+    };
 }
 
 // Any byte that is no digit ends a line.
@@ -59,18 +61,18 @@ fn ends_line(byte: &u8) -> bool {
     digit(*byte).is_none()
 }
 
-fn print_points(rt: &impl Print, text: &[u8]) -> io::Result<()> {
+fn print_points(rt: &impl Print, text: &[u8]) {
     for line in text.split_inclusive(ends_line) {
-        print_point(rt, pattern(line))?;
+        print_point(rt, pattern(line));
     }
-    println!(rt; "{} points", text.split_inclusive(ends_line).count())
+    let _ = println!(rt; "{} points", text.split_inclusive(ends_line).count());
 }
 
 fn main(rt: HostRuntime) {
-    // Of an input that fails, what came before counts; an output that fails ends the lines. Neither
-    // changes the status: the gate compares the lines.
+    // Of an input that fails, what came before counts. Where a write fails, its text is lost and the
+    // next is tried. Neither changes the status: the gate compares the lines.
     let mut input = Cursor::new([0u8; LONGEST_INPUT]);
     let _ = io::copy(&mut rt.stdin().take(LONGEST_INPUT as u64), &mut input);
     let length = (input.position() as usize).min(LONGEST_INPUT);
-    let _ = print_points(&rt, &input.get_ref()[..length]);
+    print_points(&rt, &input.get_ref()[..length]);
 }

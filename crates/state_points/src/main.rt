@@ -7,18 +7,15 @@
 
 mod tables;
 
-ghost use Rattle.std.specs.Prelude.{◌<◌};
+ghost use Rattle.std.specs.Prelude.{◌≡◌, ◌*◌, ◌<◌};
 
 use crate::tables::{MISLEADING, PRESSURES, SINGLE, TEMPERATURES};
 use books::BOOK_BYTES;
 use state::Figures;
-use std::io;
 
 const SLOTS: u64 = 64;
 
 const FLUIDS: u64 = 3;
-
-const PAIRS: u64 = FLUIDS * TEMPERATURES.len() as u64 * PRESSURES.len() as u64;
 
 const RANDOM: u64 = 1_000;
 
@@ -32,38 +29,53 @@ fn mislead(book: &mut [u8]) {
     }
 }
 
-fn print_book(rt: &impl Print, book: &[u8]) -> io::Result<()> {
-    print!(rt; "book")?;
+fn print_book(rt: &impl Print, book: &[u8]) {
+    let _ = print!(rt; "book");
     for byte in book {
-        print!(rt; " {byte}")?;
+        let _ = print!(rt; " {byte}");
     }
-    println!(rt)
+    let _ = println!(rt);
 }
 
-fn print_state(rt: &impl Print, question: Question, book: &mut [u8]) -> io::Result<()> {
+fn print_state(rt: &impl Print, question: Question, book: &mut [u8]) {
     let (fluid, millikelvin, pascals, slot) = question;
     let reply = state::ask_with_book(fluid, millikelvin, pascals, slot, book);
     let figures = Figures::from(reply);
-    print!(rt; "{fluid} {millikelvin} {pascals} {slot} {}", figures.number)?;
-    print!(rt;
+    let _ = print!(rt; "{fluid} {millikelvin} {pascals} {slot} {}", figures.number);
+    let _ = print!(rt;
         " {} {} {}",
         figures.kind, figures.gas_root, figures.dense_root
-    )?;
-    println!(rt; " {} {}", figures.gas_density, figures.dense_density)
+    );
+    let _ = println!(rt; " {} {}", figures.gas_density, figures.dense_density);
 }
 
 // Every pair of the two tables, for one fluid after another in the same slot: where several are answered,
-// each finds another's root there.
-fn print_pairs(rt: &impl Print, book: &mut [u8]) -> io::Result<()> {
+// each finds another's root there. Answers how many states it asked, as `print_single` and `print_random` do.
+fn print_pairs(rt: &impl Print, book: &mut [u8]) -> u64
+    ensures { result ≡ 3 * 64 * 45 }
+{
+    let mut asked = 0;
     for (row, &millikelvin) in TEMPERATURES.iter().enumerate() {
         for (column, &pascals) in PRESSURES.iter().enumerate() {
             let slot = (row * PRESSURES.len() + column) as u64 % SLOTS;
             for fluid in 0..FLUIDS {
-                print_state(rt, (fluid, millikelvin, pascals, slot), book)?;
+                print_state(rt, (fluid, millikelvin, pascals, slot), book);
+                asked += 1;
             }
         }
     }
-    Ok(())
+    asked
+}
+
+fn print_single(rt: &impl Print, book: &mut [u8]) -> u64
+    ensures { result ≡ 14 }
+{
+    let mut asked = 0;
+    for question in SINGLE {
+        print_state(rt, question, book);
+        asked += 1;
+    }
+    asked
 }
 
 // Park and Miller's generator: the same numbers in every run, each below the prime 2^31 - 1.
@@ -99,23 +111,31 @@ fn fluid_from(random: u64) -> u64 {
     }
 }
 
-fn print_states(rt: &impl Print, book: &mut [u8]) -> io::Result<()> {
-    print_book(rt, book)?;
-    print_pairs(rt, book)?;
-    for question in SINGLE {
-        print_state(rt, question, book)?;
-    }
+fn print_random(rt: &impl Print, book: &mut [u8]) -> u64
+    ensures { result ≡ 1000 }
+{
     let mut random = Random { last: 1 };
+    let mut asked = 0;
     for _ in 0..RANDOM {
-        print_state(rt, random.question(), book)?;
+        print_state(rt, random.question(), book);
+        asked += 1;
     }
-    print_book(rt, book)?;
-    println!(rt; "{} states", PAIRS + SINGLE.len() as u64 + RANDOM)
+    asked
+}
+
+fn print_states(rt: &impl Print, book: &mut [u8]) {
+    print_book(rt, book);
+    let pairs = print_pairs(rt, book);
+    let single = print_single(rt, book);
+    let random = print_random(rt, book);
+    print_book(rt, book);
+    let _ = println!(rt; "{} states", pairs + single + random);
 }
 
 fn main(rt: HostRuntime) {
     let mut book = [0u8; BOOK_BYTES];
     mislead(&mut book);
-    // An output that fails ends the lines, and changes no status: the gate compares the lines.
-    let _ = print_states(&rt, &mut book);
+    // Where a write fails, its text is lost and the next is tried. That changes no status: the gate
+    // compares the lines.
+    print_states(&rt, &mut book);
 }

@@ -1,0 +1,6 @@
+-- `viscosity_points::print_large` meets its contract. The loop's invariant: as many densities were asked for as were passed. Assumes nothing.
+use mathlib.Core.Path.{◌≡◌}
+use Rattle.viscosity_points.proofs.print_large.Given as goal
+
+abbrev pub invariant-loop-thousandths : goal.invariant-loop-thousandths
+invariant-loop-thousandths g l = l.asked ≡ l.thousandths-index
