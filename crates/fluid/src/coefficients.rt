@@ -1,7 +1,10 @@
 // From a state to the coefficients of the cubic (docs/RULES.md, "From a state to the cubic").
-ghost use Rattle.fluid.specs.Figures.{number_of};
-ghost use Rattle.fluid.specs.Promise.{ReducesTo};
+ghost use Rattle.refusals.specs.Checks.{Gives};
 ghost use Rattle.refusals.specs.Numbers.{outcome};
+ghost use Rattle.fluid.specs.Figures.{number_of};
+ghost use Rattle.fluid.specs.Checks.{state_checks};
+ghost use Rattle.fluid.specs.Reduced.{Reduces};
+ghost use Rattle.fluid.specs.Promise.{ReducesTo};
 
 use crate::choice::{Fluid, coldest_millikelvin, ratios_of};
 use refusals::Refusal;
@@ -38,8 +41,8 @@ pub struct Reached {
 }
 
 // The tests are in the order of the refusals' table.
-fn reduce_fluid(fluid: Fluid, millikelvin: u64, pascals: u64) -> Result<Reached, Refusal>
-    ensures { ReducesTo (number_of fluid) millikelvin pascals (outcome result) }
+fn reduce_fluid(fluid: Fluid, millikelvin: u64, pascals: u64) -> Result<Reduced, Refusal>
+    ensures { Gives (state_checks (number_of fluid) millikelvin pascals) (Reduces fluid millikelvin pascals) (outcome result) }
 {
     let coldest = coldest_millikelvin(fluid);
     if millikelvin < coldest {
@@ -60,10 +63,7 @@ fn reduce_fluid(fluid: Fluid, millikelvin: u64, pascals: u64) -> Result<Reached,
     let s = square_root((10_000 * t) as u32);
     let a = FACTOR_OF_A * p / (t * t * s);
     let b = FACTOR_OF_B * p / (100 * t);
-    Ok(Reached {
-        fluid,
-        reduced: Reduced { t, p, s, a, b },
-    })
+    Ok(Reduced { t, p, s, a, b })
 }
 
 // What a state comes to, or the first refusal that applies to it. A state is three numbers here and in every call above, as C
@@ -71,5 +71,7 @@ fn reduce_fluid(fluid: Fluid, millikelvin: u64, pascals: u64) -> Result<Reached,
 pub fn reduce(number: u64, millikelvin: u64, pascals: u64) -> Result<Reached, Refusal>
     ensures { ReducesTo number millikelvin pascals (outcome result) }
 {
-    reduce_fluid(Fluid::try_from(number)?, millikelvin, pascals)
+    let fluid = Fluid::try_from(number)?;
+    let reduced = reduce_fluid(fluid, millikelvin, pascals)?;
+    Ok(Reached { fluid, reduced })
 }

@@ -12,7 +12,8 @@ ghost use Rattle.parts.specs.Takes.{Takes, number_of_reader, number_of, over};
 use crate::going::{go_on, nothing, opened};
 use lines::wants_line;
 use readings::Reading;
-use sheets::{Cursor, Digest, Fault, State};
+pub use sheets::Fault;
+use sheets::{Cursor, Digest, State};
 
 // Where no fault was met so far: where the line begins that is not over yet, what its bytes come to, how many
 // of them are held, and how many state lines ended before it.

@@ -21,10 +21,11 @@ use Rattle.sheets.proofs.Written.{read_good}
 use Rattle.printing.specs.Prints.{LinesText, Prints}
 use Rattle.buffers.specs.Puts.{Puts}
 use Rattle.buffers.proofs.Holding.{put_with_room, after_long, up_to_end}
-use Rattle.texts.specs.Buffer.{longest_line, Written}
+use Rattle.texts.specs.declared.Text.{Text}
+use Rattle.texts.specs.Buffer.{longest_line, bytes_of, Written}
 use Rattle.wording.specs.Wording.{LineText}
 use Rattle.printing.specs.Buffer.{longest_text}
-use Rattle.printing.proofs.Counts.{counts}
+use Rattle.printing.proofs.Counts.{counts, text_short}
 
 -- one line more
 lines_on : (states : List State) (state : State) (text line : List ℕ) → LinesText states text → LineText state line → LinesText (states ++ (state ∷ [])) (text ++ line)
@@ -58,19 +59,19 @@ module _ {bytes before : List ℕ} {cursor : Cursor} {buffer : List ℕ} {end : 
     on = one_passed bytes gathered.states state after gathered.passed comes
 
     -- the line that comes has room
-    pub gathers : {line later : List ℕ} {next : ℕ} → Written (LineText state) line → Puts line buffer end later next → Gathered bytes before after later next
+    pub gathers : {line : Text} {later : List ℕ} {next : ℕ} → Written (LineText state) line → Puts (bytes_of line) buffer end later next → Gathered bytes before after later next
     gathers {line} written puts =
         let room = on.room in
-        let short = written.short in
+        let short = text_short written.sized in
         let one_more = length-append gathered.states (state ∷ []) in
-        let fits : end + length line ≤ length buffer = omega (arith, gathered.short, gathered.same_length, room.states, room.begun) in
+        let fits : end + length (bytes_of line) ≤ length buffer = omega (arith, gathered.short, gathered.same_length, room.states, room.begun) in
         let holds = put_with_room puts fits in
         record {
           states = gathered.states ++ (state ∷ []);
           passed = on;
           are_lines =
               subst (LinesText (gathered.states ++ (state ∷ []))) (sym (up_to_end fits holds))
-              (lines_on gathered.states state (take end buffer) line gathered.are_lines written.is_line);
+              (lines_on gathered.states state (take end buffer) (bytes_of line) gathered.are_lines written.is_line);
           short = omega (arith, gathered.short, holds.reaches);
           same_length = after_long fits holds ∙ gathered.same_length;
         }

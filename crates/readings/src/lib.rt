@@ -4,7 +4,8 @@
 ghost use Rattle.std.specs.Prelude.{◌≡◌};
 ghost use Rattle.readings.specs.Figures.{sheet_figures, line_figures, line_refused};
 
-use sheets::{Fault, State};
+pub use sheets::Fault;
+use sheets::State;
 
 // Of a sheet that is read or written.
 pub const MOST_BYTES: usize = 65_536;

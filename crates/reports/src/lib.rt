@@ -11,6 +11,7 @@ ghost use Rattle.reports.specs.Sheets.{figures_of, ReportsAs};
 
 use parts::Reader;
 use replies::Figures;
+pub use sheets::Fault;
 use sheets::State;
 use tallies::{Report, plus};
 pub use told::{ReportFigures, Reported};

@@ -3,7 +3,7 @@ use mathlib.Core.Path.{◌≡◌}
 use Prim.Native.Nat.{ℕ, ◌+◌, ◌-◌, ◌*◌, ◌≤◌, ◌<◌}
 use native.Mathlib.Nat.{lt_of_not-le, mul-le-mul}
 use native.Mathlib.Omega.{arith}
-use Rattle.squares.specs.Inside.{NextDigit, product}
+use Rattle.squares.specs.Inside.{ForOneDigit, NextDigit, product}
 
 rises : (root : ℕ) {k m : ℕ} → k ≤ m → product root k ≤ product root m
 rises root {k} {m} less =
@@ -17,6 +17,9 @@ below root left k m fits too_large = lt_of_not-le (λ above. omega (arith, rises
 pub next_digit : (root left digit : ℕ) → product root digit ≤ left → left < product root (digit + 1) → NextDigit root left digit
 next_digit root left digit fits too_large =
     record { fits = fits; largest = λ k fits. omega (arith, below root left k (digit + 1) fits too_large) }
+
+pub is_digit : {root left digit : ℕ} → ForOneDigit root left → NextDigit root left digit → digit ≤ 9
+is_digit {root} {left} {digit} asked next = omega (arith, below root left digit 10 next.fits asked.below_ten)
 
 -- Of the digits below `tried` those up to `last` fit and the others are too large; for each of these one is taken off 9.
 pub record Counted (root left tried digit last : ℕ) : Type 0 where

@@ -12,10 +12,10 @@ ghost use Rattle.state.specs.Replies.{Replies, RepliesForSide};
 ghost use Rattle.state.specs.Book.{Called, CalledForSide};
 
 use crate::answers::{answer, answer_side};
-pub use bands::{BandFigures, BandReply, band};
+pub use bands::{Band, BandFigures, BandReply, band};
 use calls::Form;
-pub use replies::{DENSE, Figures, GAS, Reply, SideFigures, SideReply};
-pub use walks::{WalkFigures, WalkReply, walk};
+pub use replies::{Answer, DENSE, Figures, GAS, Reply, SideAnswer, SideFigures, SideReply};
+pub use walks::{WalkFigures, WalkRefusal, WalkReply, Walked, walk};
 
 // Without a book: the search begins with no starting point.
 pub fn ask(fluid: u64, millikelvin: u64, pascals: u64) -> Reply

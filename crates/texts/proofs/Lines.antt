@@ -1,14 +1,14 @@
 -- A line put at the start of a buffer, which has room for it, is written there. Assumes nothing.
-use mathlib.Core.Path.{◌≡◌, refl, ap}
+use mathlib.Core.Path.{◌≡◌, refl}
 use mathlib.Core.List.{List, [], ◌∷◌, ◌++◌}
 use Prim.Native.Nat.{ℕ, ◌+◌, ◌*◌, ◌≤◌}
 use native.Mathlib.Omega.{arith}
-use lib.ListN.{length, take, length-append}
+use lib.ListN.{length, length-append}
 use borrow.Author.Tests.{le-leb}
 use Rattle.sheets.specs.Grammar.{line_end}
 use Rattle.sheets.proofs.Numerals.{digits_at_most}
 use Rattle.buffers.specs.Puts.{most_digits, Holds, Puts}
-use Rattle.buffers.proofs.Holding.{up_to_end, put_with_room}
+use Rattle.buffers.proofs.Holding.{after_long, up_to_end, put_with_room}
 use Rattle.buffers.proofs.Underway.{Underway, none_put, part_fits, part_held, part_put, last_fits, last_held}
 use Rattle.texts.specs.Texts.{spaced, numbers_text}
 use Rattle.texts.specs.Buffer.{longest_word, most_numbers, longest_line, Written, Fitted}
@@ -43,10 +43,9 @@ module _ (word numbers : List ℕ) where
           let numbered = part_held worded (numbers_text numbers) (line_end ∷ []) refl numbers_hold in
           last_held numbered (put_with_room (rw is_last at puts_last) (last_fits numbered))
 
-      pub fitted : Written (Fitted word numbers) (take next after)
+      pub fitted : Written (Fitted word numbers) (record { bytes = after; length = next })
       fitted =
-          let is_whole = up_to_end room line_holds in
           record {
-            short = omega (arith, ap length is_whole, whole_short);
-            is_line = rw (le-leb (length word) longest_word short, le-leb (length numbers) most_numbers few) is_whole;
+            sized = record { inside = omega (arith, whole_short, line_holds.reaches, after_long room line_holds); short = omega (arith, whole_short, line_holds.reaches) };
+            is_line = rw (le-leb (length word) longest_word short, le-leb (length numbers) most_numbers few) (up_to_end room line_holds);
           }

@@ -6,8 +6,9 @@ use Prim.Native.Nat.{ℕ}
 use lib.Dec.{leb}
 use lib.ListN.{length}
 use Rattle.sheets.specs.Grammar.{line_end}
+use Rattle.texts.specs.declared.Text.{Text}
 use Rattle.texts.specs.Texts.{numbers_text, Line}
-use Rattle.texts.specs.Buffer.{longest_word, most_numbers, Written, Fitted}
+use Rattle.texts.specs.Buffer.{longest_word, most_numbers, bytes_of, Written, Fitted}
 
 abbrev pub Once : (Text : List ℕ → Type 0) → Type 0
 Once Text = (text text' : List ℕ) → Text text → Text text' → text ≡ text'
@@ -23,7 +24,8 @@ pub line_once : (word numbers : List ℕ) → Once (Line word numbers)
 line_once word numbers = is_once (word ++ (numbers_text numbers ++ (line_end ∷ [])))
 
 -- What a text holds is fixed.
-pub line_determined : (word numbers text text' : List ℕ) → Written (Fitted word numbers) text → Written (Fitted word numbers) text' → text ≡ text'
+pub line_determined : (word numbers : List ℕ) (text text' : Text) → Written (Fitted word numbers) text → Written (Fitted word numbers) text' → bytes_of text ≡ bytes_of text'
 line_determined word numbers text text' one other =
     let nothing_once = is_once [] in
-    either_once (leb (length word) longest_word) (either_once (leb (length numbers) most_numbers) (line_once word numbers) nothing_once) nothing_once text text' one.is_line other.is_line
+    either_once (leb (length word) longest_word) (either_once (leb (length numbers) most_numbers) (line_once word numbers) nothing_once) nothing_once
+    (bytes_of text) (bytes_of text') one.is_line other.is_line

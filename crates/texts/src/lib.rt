@@ -3,13 +3,12 @@
 // it at a place, and answers the place behind it.
 #![tactic(auto)]
 
-ghost use Rattle.std.specs.Prelude.{◌≡◌, List, ℕ, ◌+◌, ◌≤◌, length, take};
+ghost use Rattle.std.specs.Prelude.{◌≡◌, ◌+◌, ◌≤◌, length};
 ghost use Rattle.buffers.specs.Puts.{Holds};
 ghost use Rattle.texts.specs.Texts.{spaced, numbers_text};
-ghost use Rattle.texts.specs.Buffer.{longest_line, Written, Fitted};
+ghost use Rattle.texts.specs.Buffer.{longest_line, bytes_of, Written, Fitted};
 
 use buffers::{MOST_DIGITS, put, put_number};
-use std::marker::Model;
 
 // SPLIT and SHEET are the longest words.
 const LONGEST_WORD: usize = 5;
@@ -21,25 +20,19 @@ const MOST_NUMBERS: usize = 4;
 pub const LONGEST_LINE: usize = LONGEST_WORD + MOST_NUMBERS * (1 + MOST_DIGITS) + 1;
 
 // The line is the first bytes, as many as the length says. What lies behind them is not told.
-#[derive(Drop)]
+#[derive(Clone, Copy)]
 pub struct Text {
-    bytes: [u8; LONGEST_LINE],
-    length: usize,
-}
-
-impl Model for Text {
-    ghost Value = { List ℕ };
-
-    ghost view = { λ text. take text.length text.bytes };
-
-    ghost invariant = { λ text. text.length ≤ longest_line };
+    pub bytes: [u8; LONGEST_LINE],
+    pub length: usize,
 }
 
 impl Text {
+    // A length past the buffer, which `line` never writes, stands for all of the buffer.
     pub fn bytes(&self) -> &[u8]
-        ensures { result.now ≡ self.now }
+        ensures line { result.now ≡ bytes_of self.now }
+        ensures short { length result.now ≤ longest_line }
     {
-        &self.bytes[..self.length]
+        &self.bytes[..self.length.min(LONGEST_LINE)]
     }
 }
 

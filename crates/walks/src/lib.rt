@@ -11,6 +11,7 @@ ghost use Rattle.walks.specs.Inside.{WalksDown};
 use refusals::Refusal;
 pub use replies::{WalkFigures, WalkRefusal, WalkReply};
 use slow_engine::WalkError;
+pub use slow_engine::Walked;
 
 // The coefficients of an accepted state are within the cubic's bounds.
 fn walk_down(a: u64, b: u64, limit: u64) -> WalkReply

@@ -2,7 +2,7 @@
 use mathlib.Core.Path.{◌≡◌, subst}
 use mathlib.Core.List.{[], ◌∷◌}
 use lib.Dec.{eqb}
-use Rattle.std.specs.Prelude.{List, ℕ, Result}
+use Rattle.std.specs.Prelude.{Result}
 use Rattle.refusals.specs.declared.Refusal.{Refusal}
 use Rattle.replies.specs.declared.Answer.{Answer}
 use Rattle.replies.specs.declared.Figures.{Figures}
@@ -10,7 +10,8 @@ use Rattle.replies.specs.Figures.{figures_of}
 use Rattle.state.proofs.Theorems.{reply_determined}
 use Rattle.sheets.specs.declared.State.{State}
 use Rattle.readings.specs.Figures.{Reading, sheet_figures}
-use Rattle.texts.specs.Buffer.{Written}
+use Rattle.texts.specs.declared.Text.{Text}
+use Rattle.texts.specs.Buffer.{bytes_of, Written}
 use Rattle.texts.proofs.Theorems.{Once, either_once, line_once}
 use Rattle.wording.specs.Wording.{ONE, SPLIT, NO, SHEET, gas_side, both_sides, number_and_place, FiguresText, LineText, FaultText}
 
@@ -28,8 +29,8 @@ state_once state text text' one other =
 pub fault_once : (fault : Reading) → Once (FaultText fault)
 fault_once fault = line_once SHEET (number_and_place (sheet_figures fault))
 
-pub state_text_determined : (state : State) (text text' : List ℕ) → Written (LineText state) text → Written (LineText state) text' → text ≡ text'
-state_text_determined state text text' one other = state_once state text text' one.is_line other.is_line
+pub state_text_determined : (state : State) (text text' : Text) → Written (LineText state) text → Written (LineText state) text' → bytes_of text ≡ bytes_of text'
+state_text_determined state text text' one other = state_once state (bytes_of text) (bytes_of text') one.is_line other.is_line
 
-pub fault_text_determined : (fault : Reading) (text text' : List ℕ) → Written (FaultText fault) text → Written (FaultText fault) text' → text ≡ text'
-fault_text_determined fault text text' one other = fault_once fault text text' one.is_line other.is_line
+pub fault_text_determined : (fault : Reading) (text text' : Text) → Written (FaultText fault) text → Written (FaultText fault) text' → bytes_of text ≡ bytes_of text'
+fault_text_determined fault text text' one other = fault_once fault (bytes_of text) (bytes_of text') one.is_line other.is_line

@@ -11,7 +11,8 @@ ghost use Rattle.measures.specs.Replies.{figures_of};
 ghost use Rattle.writer.specs.Replies.{left, Writes};
 
 use crate::putting::put_section;
-use measures::{Lists, WriteReply, measure};
+pub use measures::{Columns, Lists};
+use measures::{WriteReply, measure};
 
 // States out of range are written too. The sheet stands at the start of the buffer, and what lies behind it is
 // as it was.

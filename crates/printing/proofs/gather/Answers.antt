@@ -25,7 +25,7 @@ loop-line-smaller c = let moves = comes_moves _ (comes_line c) in omega (arith, 
 
 pub loop-line-preserved : goal.loop-line-preserved
 loop-line-preserved c =
-    gathers c.loop-line.invariant c.requires (comes_line c) c.state_text-text.ensures (rw c.bytes.ensures at c.put-end.ensures)
+    gathers c.loop-line.invariant c.requires (comes_line c) c.state_text-text.ensures (rw c.bytes.ensures.line at c.put-end.ensures)
 
 pub returns : goal.returns
 returns c = prints_all c.loop-line.invariant c.requires (next_came _ _ (Ok None) (ap Ok c.in_default.is) c.in_ok-line.ensures)

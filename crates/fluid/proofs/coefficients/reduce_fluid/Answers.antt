@@ -42,14 +42,10 @@ returns c =
     let start = c.args in (
       passes start.fluid refl _ _ (accepted c.before),
       record {
-        is_number = refl;
-        reduces =
-            record {
-              is_t = ap (λ (r : Ratios). r.t) c.ratios_of-ratios.ensures;
-              is_p = ap (λ (r : Ratios). r.p) c.ratios_of-ratios.ensures;
-              is_s = c.square_root-s.ensures;
-              is_a = refl;
-              is_b = refl;
-            };
+        is_t = ap (λ (r : Ratios). r.t) c.ratios_of-ratios.ensures;
+        is_p = ap (λ (r : Ratios). r.p) c.ratios_of-ratios.ensures;
+        is_s = c.square_root-s.ensures;
+        is_a = refl;
+        is_b = refl;
       },
     )
